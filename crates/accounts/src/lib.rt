@@ -1,0 +1,2 @@
+// Account records and allocation lines, and the interface of an account book.
+pub mod record;
