@@ -1,2 +1,3 @@
 // Account records and allocation lines, and the interface of an account book.
+pub mod book;
 pub mod record;
