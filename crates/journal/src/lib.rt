@@ -1,0 +1,1 @@
+// A run: a ledger opened on an empty book, and any list of calls performed one by one.
