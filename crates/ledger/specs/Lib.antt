@@ -3,5 +3,8 @@ pub mod Refusals
 pub mod Sums
 pub mod Records
 pub mod Lines
+pub mod Phases
 pub mod States
 pub mod Steps
+pub mod Views
+pub mod Accepting

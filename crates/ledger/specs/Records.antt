@@ -2,13 +2,17 @@
 use Prim.Native.Nat.{ℕ, _+_, _-_}
 use mathlib.Core.Bool.{Bool, true, false, cond}
 use mathlib.Core.List.{List, [], _∷_}
+use mathlib.Core.Path.{_≡_}
 use lib.Dec.{eqb}
+use lib.ListN.{set}
 use Rattle.std.specs.declared.option.Option.{Option}
 use Rattle.std.specs.declared.option.Option.the-variants.{None, Some}
 use Rattle.accounts.specs.declared.record.Line.{Line}
 use Rattle.accounts.specs.declared.record.Record.{Record}
 use Rattle.accounts.specs.declared.record.State.the-variants.{Open, Closed}
 use Rattle.accounts.specs.declared.record.State as state
+use Rattle.accounts.specs.Books.{suits}
+use Rattle.accounts.specs.Ranges.{in-range}
 use Rattle.ledger.specs.Rules.{share}
 
 -- the record of an account, or nothing where there is none
@@ -118,3 +122,12 @@ joining l =
       held = 0;
       last = 0;
     }
+
+-- the record of an account that a search found at a place: another record of the account in range suits the place, and
+-- replaces the account's record there
+pub record Located (rs : List Record) (account place : ℕ) (r : Record) : Type 0 where
+  pub told : record-of account rs ≡ Some r
+  pub ranged : in-range r ≡ true
+  pub whose : r .account ≡ account
+  pub fitting : (new : Record) → new .account ≡ account → in-range new ≡ true → suits rs place new ≡ true
+  pub putting : (new : Record) → new .account ≡ account → set rs place new ≡ put new rs

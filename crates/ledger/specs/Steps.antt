@@ -93,10 +93,12 @@ judge-record worth period applied cents (Some r) =
     (cond (eqb (r .last) period) (Err why.BilledAlready)
     (cond (ltb 10000000000000 (applied + counted (r .kind) (posting worth r cents .applied))) (Err why.ForeignBook) (Ok r)))
 
+abbrev pub judge-cents : (ℕ → ℕ → ℕ) → ℕ → ℕ → ℕ → ℕ → List Record → Result Record Refusal
+judge-cents worth period applied account cents rs =
+    cond (ltb 1000000000 cents) (Err why.BillTooLarge) (judge-record worth period applied cents (record-of account rs))
+
 abbrev pub judge-bill : (ℕ → ℕ → ℕ) → State → ℕ → ℕ → ℕ → Result Record Refusal
-judge-bill worth s applied account cents =
-    cond (ltb 1000000000 cents) (Err why.BillTooLarge)
-    (judge-record worth (s .closed + 1) applied cents (record-of account (s .records)))
+judge-bill worth s applied account cents = judge-cents worth (s .closed + 1) applied account cents (s .records)
 
 -- the period's applied credits and fees with one posting more
 abbrev pub raised : ℕ → ℕ → Record → Posting → Phase

@@ -1,0 +1,3 @@
+pub mod Fees
+pub mod Locating
+pub mod Judging
