@@ -53,9 +53,13 @@ large-percentage l = large-part (l .size) (l .percentage)
 abbrev pub is-new : List Record → Line → Bool
 is-new rs l = not (present (l .account) (accounts rs))
 
+-- how many accounts a line adds
+abbrev pub joins : List Record → Line → ℕ
+joins rs l = cond (is-new rs l) 1 0
+
 -- how many lines are of new accounts
 abbrev pub new-accounts : List Record → List Line → ℕ
-new-accounts rs ls = total (λ l. cond (is-new rs l) 1 0) ls
+new-accounts rs ls = total (joins rs) ls
 
 -- a refusal where a place is told, else what comes after
 abbrev pub unless-at : (ℕ → Refusal) → Option ℕ → Result ℕ Refusal → Result ℕ Refusal

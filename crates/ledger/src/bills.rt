@@ -1,31 +1,20 @@
 // What a bill comes to, and when it is accepted.
-ghost use lib.Dec.{ltb};
 ghost use mathlib.Core.Bool.{true};
 ghost use mathlib.Core.Path.{_≡_};
 ghost use Prim.Native.Nat.{_+_, _*_, _≤_};
-ghost use Rattle.std.specs.Options.{Cases};
-ghost use Rattle.std.specs.declared.option.Option.the-variants.{Some};
-ghost use Rattle.accounts.specs.Books.{accounts, find};
 ghost use Rattle.accounts.specs.Ranges.{in-range};
 ghost use Rattle.std.specs.Vec.{made};
 ghost use Rattle.ledger.specs.Accepting.{Judged, Limited};
-ghost use Rattle.ledger.specs.Records.{Located};
 ghost use Rattle.ledger.specs.Rules.{counted, net-credit};
 ghost use Rattle.ledger.specs.Steps.{posting};
 use super::call::Posting;
 use super::call::Refusal;
+use super::holders::located;
 use accounts::book::AccountBook;
 use accounts::record::Kind;
 use accounts::record::Record;
 use accounts::record::State;
 use crediting::method::CreditMethod;
-
-// The record of an account that a search found at a place.
-pub(crate) fn located<B: AccountBook>(book: &B, account: u64, place: usize) -> Option<Record>
-    ensures { λ r. ⌜ (sound (now (book .entry)) → find account (accounts (records (now (book .entry)))) ≡ Some place → Cases r ⊥ (λ x. Located (records (now (book .entry))) account place x)) ⌝ }
-{
-    book.get(place)
-}
 
 // What a satellite keeps of an applied credit.
 fn net_credit(kind: Kind, savings: u16, applied: u64) -> u64
@@ -76,8 +65,7 @@ pub(crate) struct Accepted {
     pub(crate) posting: Posting,
 }
 
-// Whether a bill is accepted in a period whose members' applied credits have come to `applied`. A record out of range
-// is in no proper book.
+// Whether a bill is accepted in a period whose members' applied credits have come to `applied`.
 pub(crate) fn judge_bill<M: CreditMethod, B: AccountBook>(
     book: &B,
     method: &M,
@@ -99,9 +87,6 @@ pub(crate) fn judge_bill<M: CreditMethod, B: AccountBook>(
     let Some(holder) = located(book, account, place) else {
         return Err(Refusal::ForeignBook);
     };
-    if !holder.in_range() {
-        return Err(Refusal::ForeignBook);
-    }
     if let State::Closed = holder.state {
         return Err(Refusal::NoOpenAccount);
     }

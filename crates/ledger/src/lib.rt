@@ -3,7 +3,11 @@
 mod bills;
 pub mod call;
 mod calls;
+mod enrolment;
+mod holders;
 pub mod ledger;
+mod lines;
 mod moves;
 pub mod phase;
+mod shares;
 mod tells;

@@ -2,7 +2,7 @@
 ghost use mathlib.Core.Path.{_≡_};
 ghost use Rattle.ledger.specs.Steps.{disburse};
 ghost use Rattle.ledger.specs.Views.{Kept, outcome, view};
-use super::bills::located;
+use super::holders::located;
 use super::call::Done;
 use super::call::Refusal;
 use super::ledger::Ledger;

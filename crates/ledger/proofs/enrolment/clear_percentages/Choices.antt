@@ -1,0 +1,10 @@
+use Rattle.accounts.specs.Books.{Left}
+use Rattle.ledger.specs.Records.{unallocated}
+use Rattle.ledger.proofs.Replacing.{over}
+use Rattle.ledger.proofs.enrolment.clear_percentages.Given as given
+
+abbrev pub Inv-loop-place : given.InvT-loop-place
+Inv-loop-place g l =
+    let b = g .B·AccountBook in
+    let rs = b .records (l .entry .book) in
+    b .sound (l .entry .book) → Left (b .sound (l .book)) (b .records (l .book)) (over unallocated rs (l .place)) (b .room (l .book)) (b .room (l .entry .book)) (b .side (l .book)) (b .side (l .entry .book)) (b .loans (l .book)) (b .loans (l .entry .book))
