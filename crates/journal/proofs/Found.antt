@@ -28,13 +28,14 @@ pub put-length : (n : Record) (rs : List Record) → length (put n rs) ≡ lengt
 put-length n [] = refl
 put-length n (x ∷ rs) = let ih = put-length n rs in grind (arith, tells)
 
-pub put-total : (f : Record → ℕ) (n : Record) (rs : List Record) (r : Record) → record-of (n .account) rs ≡ Some r → total f (put n rs) + f r ≡ total f rs + f n
-put-total f n [] r e = let z : _≡_ {A = ℕ} 0 1 = cc in absurd (omega arith)
-put-total f n (x ∷ rs) r e = let ih = put-total f n rs r in grind (arith, tells)
+-- n is put in the place of r, the record of account a
+pub put-total : (f : Record → ℕ) (a : ℕ) (n : Record) (rs : List Record) (r : Record) → n .account ≡ a → record-of a rs ≡ Some r → total f (put n rs) + f r ≡ total f rs + f n
+put-total f a n [] r same e = let z : _≡_ {A = ℕ} 0 1 = cc in absurd (omega arith)
+put-total f a n (x ∷ rs) r same e = let ih = put-total f a n rs r same in grind (arith, tells)
 
-pub put-found : (a : ℕ) (n : Record) (rs : List Record) (r : Record) → record-of (n .account) rs ≡ Some r → record-of a (put n rs) ≡ cond (eqb (n .account) a) (Some n) (record-of a rs)
-put-found a n [] r e = let z : _≡_ {A = ℕ} 0 1 = cc in absurd (omega arith)
-put-found a n (x ∷ rs) r e = let ih = put-found a n rs r in grind (arith, tells)
+pub put-found : (b a : ℕ) (n : Record) (rs : List Record) (r : Record) → n .account ≡ a → record-of a rs ≡ Some r → record-of b (put n rs) ≡ cond (eqb a b) (Some n) (record-of b rs)
+put-found b a n [] r same e = let z : _≡_ {A = ℕ} 0 1 = cc in absurd (omega arith)
+put-found b a n (x ∷ rs) r same e = let ih = put-found b a n rs r same in grind (arith, tells)
 
 -- a change of a record, if there is one
 abbrev pub changed : (Record → Record) → Option Record → Option Record
