@@ -1,0 +1,96 @@
+-- A reading and a disbursement keep what stands.
+use Prim.Native.Nat.{ℕ, _+_, _-_, _*_, _/_, _≤_}
+use native.Mathlib.Nat.{mul-le-mul-left}
+use native.Mathlib.Omega.{arith}
+use mathlib.Core.Bool.{Bool, true, false, cond, _||_}
+use mathlib.Core.List.{List, [], _∷_, map}
+use mathlib.Core.Path.{_≡_, refl, ap, sym, _∙_}
+use lib.Dec.{eqb, leb, ltb}
+use lib.ListN.{length}
+use Rattle.std.proofs.shelf.Lists.{length-map}
+use Rattle.std.proofs.shelf.Tests.{both-ways, cond-both, cond-false, cond-true, eq-eqb, le-ltb, ltb-false, or-from, or-parts}
+use Rattle.std.specs.declared.option.Option.{Option}
+use Rattle.std.specs.declared.option.Option.the-variants.{None, Some}
+use Rattle.accounts.specs.declared.record.Record.{Record}
+use Rattle.ledger.specs.declared.call.Call.{Call}
+use Rattle.ledger.specs.declared.call.Call.the-variants as call
+use Rattle.ledger.specs.declared.call.Done.the-variants.{Disbursed, Opened}
+use Rattle.ledger.specs.declared.call.Refusal.the-variants as why
+use Rattle.ledger.specs.declared.phase.Phase.{Phase}
+use Rattle.ledger.specs.declared.phase.Phase.the-variants.{Between, InPeriod}
+use Rattle.ledger.specs.Records.{gaining, holding, is-closed, put, record-of}
+use Rattle.ledger.specs.Rules.{share}
+use Rattle.ledger.specs.States.{State, Outcome, performed}
+use Rattle.ledger.specs.Steps.{disburse, disburse-to, foreign-to-reading, reading, shares}
+use Rattle.ledger.specs.Sums.{some, total}
+use Rattle.journal.specs.Histories as history
+use Rattle.journal.specs.Histories.{History, class-of, disbursed-to, given, percentage-of, shares-of, used-by}
+use Rattle.journal.specs.Laws.{open-fees}
+use Rattle.journal.proofs.Found.{changed, found-account, found-within, map-found, put-length, put-total}
+use Rattle.journal.proofs.Standing.{Kept, Stands, Ties, keeps-declined, keeps-past, keeps-unless, unbounded}
+use Rattle.journal.proofs.Ties.{Tied-open, found-tie, gain-tie, put-ties, tied-same}
+use Rattle.journal.proofs.Totals.{shares-within, total-map, total-plus}
+
+-- no element passes what all are together
+pub none-pass : {X : Type 0} (f : X → ℕ) (xs : List X) (n : ℕ) → total f xs ≤ n → some (λ x. ltb n (f x)) xs ≡ false
+none-pass f [] n h = refl
+none-pass f (x ∷ xs) n h = or-from (ltb n (f x)) _ (le-ltb n (f x) (omega arith)) (none-pass f xs n (omega arith))
+
+-- the shares of a reading are within it
+pub shares-fit : (units : ℕ) (rs : List Record) → total (λ r. r .percentage) rs ≤ 100000 → shares units rs ≤ units
+shares-fit units rs whole =
+    omega (arith, shares-within units (λ (r : Record). r .percentage) rs, mul-le-mul-left {m = total (λ r. r .percentage) rs} {n = 100000} units whole)
+
+-- what the records hold after it
+pub gained-held : (units : ℕ) (rs : List Record) → total (λ r. r .held) (map (gaining units) rs) ≡ total (λ r. r .held) rs + shares units rs
+gained-held units rs = total-map (λ r. r .held) (gaining units) rs ∙ total-plus (λ r. r .held) (λ r. share units (r .percentage)) rs
+
+-- what an accepted reading leaves
+abbrev gained : State → ℕ → Outcome
+gained s units =
+    performed s (InPeriod 0 0) (s .closed) (s .bank + (units - shares units (s .records))) (s .read + units)
+    (map (gaining units) (s .records)) (Opened (s .closed + 1))
+
+module _ {M : Type 0} (worth : M → ℕ → ℕ → ℕ) where
+  held-within : (h : History M) (s : State) → Stands worth h s → s .bank + total (λ r. r .held) (s .records) ≤ s .read
+  held-within h s i = omega (arith, i .law .units, i .readings)
+
+  -- a book of this run is never another ledger's
+  not-foreign : (h : History M) (s : State) (units : ℕ) → Stands worth h s → s .read + units ≤ 1_000_000_000_000 → foreign-to-reading units (s .records) ≡ false
+  not-foreign h s units i small =
+      let fit = shares-fit units (s .records) (i .whole) in
+      let sum = total-plus (λ r. r .held) (λ r. share units (r .percentage)) (s .records) in
+      or-from _ _ (le-ltb 100000 _ (i .whole)) (none-pass (λ r. r .held + share units (r .percentage)) (s .records) 1000000000000 (omega (arith, held-within h s i)))
+
+  keeps-gains : (h : History M) (s : State) (units : ℕ) → s .phase ≡ Between → Stands worth h s → s .read + units ≤ 1_000_000_000_000 → Kept worth h (call.Reading units) (gained s units)
+  unfolding percentage-of class-of shares-of disbursed-to used-by
+  keeps-gains h s units at i small =
+      let shut : open-fees worth (s .phase) ≡ 0 = ap (open-fees worth) at in
+      let fit = shares-fit units (s .records) (i .whole) in
+      let held = gained-held units (s .records) in
+      let same = total-map (λ (r : Record). r .percentage) (gaining units) (s .records) in
+      let size = length-map (s .records) (gaining units) in
+      record {
+        event = history.opened units (s .closed + 1);
+        called = refl;
+        answered = refl;
+        stands = record {
+          fits = omega (arith, i .fits);
+          few = i .few;
+          whole = omega (arith, i .whole);
+          readings = omega (arith, i .readings);
+          within = small;
+          bounds = record { paid = omega arith; small = omega arith };
+          ties = λ a. rw (map-found (gaining units) (λ r. refl) a (s .records)) (gain-tie units _ _ (given a h) _ _ (record-of a (s .records)) (omega arith) (i .ties a));
+          law = record { units = omega (arith, i .law); cents = omega (arith, i .law); each = (tt, i .law .each) };
+        };
+      }
+
+  pub keeps-reading : (h : History M) (s : State) (units : ℕ) → s .phase ≡ Between → Stands worth h s → Kept worth h (call.Reading units) (reading s units)
+  keeps-reading h s units at i =
+      keeps-unless worth h s (call.Reading units) (leb 1200 (s .closed)) why.PeriodsOver _ (omega arith) i
+      (λ _. keeps-unless worth h s (call.Reading units) (ltb 10000000000 units) why.ReadingTooLarge _ (omega arith) i
+      (λ _. keeps-unless worth h s (call.Reading units) (ltb 1000000000000 (s .read + units)) why.ReadingsPass _ (omega arith) i
+      (λ e. let small = ltb-false 1000000000000 (s .read + units) e in
+      keeps-past worth h s (call.Reading units) (foreign-to-reading units (s .records)) why.ForeignBook _ (not-foreign h s units i small)
+      (keeps-gains h s units at i small))))
