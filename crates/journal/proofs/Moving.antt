@@ -28,7 +28,7 @@ use Rattle.journal.specs.Histories.{History, class-of, disbursed-to, given, pe
 use Rattle.journal.specs.Laws.{open-fees}
 use Rattle.journal.proofs.Found.{changed, found-account, found-within, map-found, put-length, put-total}
 use Rattle.journal.proofs.Standing.{Kept, Stands, Ties, keeps-declined, keeps-past, keeps-unless, unbounded}
-use Rattle.journal.proofs.Ties.{Tied-open, found-tie, gain-tie, put-ties, tied-same}
+use Rattle.journal.proofs.Ties.{Tied-open, found-tie, gain-tie, held-tie, put-ties, tied-same}
 use Rattle.journal.proofs.Totals.{shares-within, total-map, total-plus}
 
 -- no element passes what all are together
@@ -50,6 +50,12 @@ abbrev gained : State → ℕ → Outcome
 gained s units =
     performed s (InPeriod 0 0) (s .closed) (s .bank + (units - shares units (s .records))) (s .read + units)
     (map (gaining units) (s .records)) (Opened (s .closed + 1))
+
+-- and an accepted disbursement
+abbrev moved : State → ℕ → Record → Outcome
+moved s units r =
+    performed s (s .phase) (s .closed) (s .bank - units) (s .read) (put (holding (r .held + units) r) (s .records))
+    (Disbursed (s .bank - units))
 
 module _ {M : Type 0} (worth : M → ℕ → ℕ → ℕ) where
   held-within : (h : History M) (s : State) → Stands worth h s → s .bank + total (λ r. r .held) (s .records) ≤ s .read
@@ -94,3 +100,48 @@ module _ {M : Type 0} (worth : M → ℕ → ℕ → ℕ) where
       (λ e. let small = ltb-false 1000000000000 (s .read + units) e in
       keeps-past worth h s (call.Reading units) (foreign-to-reading units (s .records)) why.ForeignBook _ (not-foreign h s units i small)
       (keeps-gains h s units at i small))))
+
+  -- after units are moved to an open account's record
+  keeps-moved : (h : History M) (s : State) (account units : ℕ) (r : Record) → s .phase ≡ Between → Stands worth h s → record-of account (s .records) ≡ Some r → is-closed (r .state) ≡ false → units ≤ s .bank → Kept worth h (call.Disburse account units) (moved s units r)
+  unfolding percentage-of class-of shares-of disbursed-to used-by
+  keeps-moved h s account units r at i e unclosed enough =
+      let n : Record = holding (r .held + units) r in
+      let same = found-account account (s .records) r e in
+      let t = found-tie _ _ _ _ _ r e unclosed (i .ties account) in
+      let held = put-total (λ r. r .held) account n (s .records) r same e in
+      let whole = put-total (λ r. r .percentage) account n (s .records) r same e in
+      let size = put-length n (s .records) in
+      let own : history.of-account account account units ≡ units = cond-true _ _ _ (eq-eqb account account refl) in
+      let tie : Ties worth (history.disbursed account units (s .bank - units) ∷ h) account (Some n) = held-tie _ _ _ _ _ _ (r .held + units) (r .last) r (omega (arith, t .holds)) t in
+      record {
+        event = history.disbursed account units (s .bank - units);
+        called = refl;
+        answered = refl;
+        stands = record {
+          fits = omega (arith, i .fits);
+          few = i .few;
+          whole = omega (arith, i .whole);
+          readings = omega (arith, i .readings);
+          within = i .within;
+          bounds = unbounded (s .phase) _ at;
+          ties = put-ties (Ties worth h) (Ties worth (history.disbursed account units (s .bank - units) ∷ h)) account n (s .records) r same e tie
+          (λ b o other t. let none : history.of-account b account units ≡ 0 = cond-false _ _ _ other in tied-same _ _ (given b h) _ _ _ o (omega arith) refl t)
+          (i .ties);
+          law = record { units = omega (arith, i .law); cents = omega (arith, i .law); each = (tt, i .law .each) };
+        };
+      }
+
+  pub keeps-disburse : (h : History M) (s : State) (account units : ℕ) → s .phase ≡ Between → Stands worth h s → Kept worth h (call.Disburse account units) (disburse s account units)
+  keeps-disburse h s account units at i = go (record-of account (s .records)) refl
+    where
+      c : Call M
+      c = call.Disburse account units
+      go : (o : Option Record) → record-of account (s .records) ≡ o → Kept worth h c (disburse-to s units o)
+      go None e = keeps-declined worth h s c why.NoOpenAccount (omega arith) i
+      go (Some r) e =
+          let most = found-within (λ r. r .held) account (s .records) r e in
+          keeps-unless worth h s c (is-closed (r .state)) why.NoOpenAccount _ (omega arith) i
+          (λ unclosed. keeps-unless worth h s c (eqb units 0 || ltb (s .bank) units) why.NotInBank _ (omega arith) i
+          (λ inside. let enough = ltb-false (s .bank) units (or-parts (eqb units 0) _ inside .1) in
+          keeps-past worth h s c (ltb 1000000000000 (r .held + units)) why.ForeignBook _ (le-ltb 1000000000000 _ (omega (arith, held-within h s i, i .within)))
+          (keeps-moved h s account units r at i e unclosed enough)))

@@ -49,6 +49,21 @@ Tied p k g u (Some r) = Tied-in p k g u r (r .state)
 pub tied-same : (p k g u g′ u′ : ℕ) (o : Option Record) → g′ ≡ g → u′ ≡ u → Tied p k g u o → Tied p k g′ u′ o
 tied-same p k g u g′ u′ o d e t = rw (d, e) t
 
+-- with other units held and another last period
+abbrev kept : ℕ → ℕ → Record → Record
+kept held last r =
+    record {
+      account = r .account;
+      percentage = r .percentage;
+      savings = r .savings;
+      class = r .class;
+      size = r .size;
+      kind = r .kind;
+      state = r .state;
+      held = held;
+      last = last;
+    }
+
 -- the tie of a record that is found and not closed
 pub found-tie : (p k g u : ℕ) (o : Option Record) (r : Record) → o ≡ Some r → is-closed (r .state) ≡ false → Tied p k g u o → Tied-open p k g u r
 found-tie p k g u o r e unclosed t = go (r .state) unclosed (subst (λ x. Tied p k g u x) e t)
@@ -56,6 +71,22 @@ found-tie p k g u o r e unclosed t = go (r .state) unclosed (subst (λ x. Tied p
     go : (s : state.State) → is-closed s ≡ false → Tied-in p k g u r s → Tied-open p k g u r
     go Open unclosed t = t
     go Closed unclosed t = let z : _≡_ {A = ℕ} 0 1 = cc in absurd (omega arith)
+
+pub tied-in : (p k g u : ℕ) (r : Record) (s : state.State) → Tied-open p k g u r → Tied-in p k g u r s
+tied-in p k g u r Open t = t
+tied-in p k g u r Closed t = tt
+
+-- an open account's record after a bill or a disbursement
+pub held-tie : (p k g u g′ u′ held last : ℕ) (r : Record) → held + u′ ≡ g′ → Tied-open p k g u r → Tied p k g′ u′ (Some (kept held last r))
+held-tie p k g u g′ u′ held last r e t =
+    tied-in p k g′ u′ (kept held last r) (r .state)
+    (record {
+      allocation = t .allocation;
+      classed = t .classed;
+      is = t .is;
+      low = t .low;
+      holds = e;
+    })
 
 -- the ties of all accounts, one of which has another record
 pub put-ties : (P Q : ℕ → Option Record → Type 0) (a : ℕ) (n : Record) (rs : List Record) (r : Record) → n .account ≡ a → record-of a rs ≡ Some r → Q a (Some n) → ((b : ℕ) (o : Option Record) → eqb a b ≡ false → P b o → Q b o) → ((b : ℕ) → P b (record-of b rs)) → (b : ℕ) → Q b (record-of b (put n rs))
