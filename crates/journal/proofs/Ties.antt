@@ -46,8 +46,8 @@ abbrev pub Tied : (percentage class given used : ℕ) → Option Record → Type
 Tied p k g u None = Unknown p g u
 Tied p k g u (Some r) = Tied-in p k g u r (r .state)
 
-pub tied-same : (p k g u g′ u′ : ℕ) (o : Option Record) → g′ ≡ g → u′ ≡ u → Tied p k g u o → Tied p k g′ u′ o
-tied-same p k g u g′ u′ o d e t = rw (d, e) t
+pub tied-same : (p k g u p′ g′ u′ : ℕ) (o : Option Record) → p′ ≡ p → g′ ≡ g → u′ ≡ u → Tied p k g u o → Tied p′ k g′ u′ o
+tied-same p k g u p′ g′ u′ o c d e t = rw (c, d, e) t
 
 -- with other units held and another last period
 abbrev kept : ℕ → ℕ → Record → Record
