@@ -45,13 +45,24 @@ record Billable (account cents period : ℕ) (rs : List Record) (r : Record) : T
   unbilled : eqb (r .last) period ≡ false
   small : cents ≤ 1_000_000_000
 
--- one more record is billed in the period
-one-more : (account period : ℕ) (n r : Record) (rs : List Record) → n .account ≡ account → n .last ≡ period → record-of account rs ≡ Some r → eqb (r .last) period ≡ false → billed-in period (put n rs) ≡ billed-in period rs + 1
-one-more account period n r rs same last e unbilled =
-    let sum = put-total (λ (x : Record). cond (eqb (x .last) period) 1 0) account n rs r same e in
-    let before = cond-false {A = ℕ} (eqb (r .last) period) 1 0 unbilled in
+-- what the records come to with n, billed in the period, in the place of r
+record Replaced (period : ℕ) (n r : Record) (rs : List Record) : Type 0 where
+  held : total (λ x. x .held) (put n rs) + r .held ≡ total (λ x. x .held) rs + n .held
+  whole : total (λ x. x .percentage) (put n rs) + r .percentage ≡ total (λ x. x .percentage) rs + n .percentage
+  size : length (put n rs) ≡ length rs
+  count : billed-in period (put n rs) ≡ billed-in period rs + 1
+
+replaced : (account cents period : ℕ) (n r : Record) (rs : List Record) → n .account ≡ account → n .last ≡ period → Billable account cents period rs r → Replaced period n r rs
+replaced account cents period n r rs same last b =
+    let sum = put-total (λ (x : Record). cond (eqb (x .last) period) 1 0) account n rs r same (b .found) in
+    let before = cond-false {A = ℕ} (eqb (r .last) period) 1 0 (b .unbilled) in
     let now = cond-true {A = ℕ} (eqb (n .last) period) 1 0 (eq-eqb (n .last) period last) in
-    omega arith
+    record {
+      held = put-total (λ x. x .held) account n rs r same (b .found);
+      whole = put-total (λ x. x .percentage) account n rs r same (b .found);
+      size = put-length n rs;
+      count = omega arith;
+    }
 
 module _ {M : Type 0} (worth : M → ℕ → ℕ → ℕ) where
   -- the book is never another ledger's: a bill is declined for another reason, or its account's record is billable
@@ -122,10 +133,7 @@ module _ {M : Type 0} (worth : M → ℕ → ℕ → ℕ) where
           let n : Record = billed (s .closed + 1) (p .used) r in
           let same = found-account account (s .records) r (b .found) in
           let f = posted lawful h s m account cents r i b in
-          let held = put-total (λ r. r .held) account n (s .records) r same (b .found) in
-          let whole = put-total (λ r. r .percentage) account n (s .records) r same (b .found) in
-          let size = put-length n (s .records) in
-          let count = one-more account (s .closed + 1) n r (s .records) same refl (b .found) (b .unbilled) in
+          let q = replaced account cents (s .closed + 1) n r (s .records) same refl b in
           let bounds = bounds-at (s .phase) applied fees _ at (i .bounds) in
           let now : open-fees worth (s .phase) ≡ fees = ap (open-fees worth) at in
           let own : of-account account account (p .used) ≡ p .used = cond-true _ _ _ (eq-eqb account account refl) in
@@ -134,16 +142,59 @@ module _ {M : Type 0} (worth : M → ℕ → ℕ → ℕ) where
             called = refl;
             answered = refl;
             stands = record {
-              fits = omega (arith, i .fits);
+              fits = omega (arith, i .fits, q .size);
               few = i .few;
-              whole = omega (arith, i .whole);
+              whole = omega (arith, i .whole, q .whole);
               readings = omega (arith, i .readings);
               within = i .within;
-              bounds = record { paid = omega (arith, f .paid, bounds .paid); small = omega (arith, f .small, bounds .small) };
+              bounds = omega (arith, f .paid, f .small, bounds, q .count);
               ties = put-ties (Ties worth h) (Ties worth (e ∷ h)) account n (s .records) r same (b .found)
               (held-tie _ _ _ _ _ _ (r .held - p .used) (s .closed + 1) r (omega (arith, f .tie .holds, f .inside)) (f .tie))
-              (λ b o other t. let none : of-account b account (p .used) ≡ 0 = cond-false _ _ _ other in tied-same _ _ _ (used-by b h) _ _ _ o refl refl (omega arith) t)
+              (λ a o other t. let none : of-account a account (p .used) ≡ 0 = cond-false _ _ _ other in tied-same _ _ _ (used-by a h) _ _ _ o refl refl (omega arith) t)
               (i .ties);
-              law = record { units = omega (arith, i .law, f .inside); cents = omega (arith, i .law, f .split); each = (f .rule, i .law .each) };
+              law = record {
+                units = omega (arith, i .law .units, f .inside, q .held);
+                cents = omega (arith, i .law .cents, f .split);
+                each = (f .rule, i .law .each);
+              };
+            };
+          }
+
+  pub keeps-final : (lawful : (m : M) (k : ℕ) → is-class k ≡ true → Lawful (worth m k)) (h : History M) (s : State) (m : M) (applied fees account cents : ℕ) → s .phase ≡ InPeriod applied fees → Stands worth h s → Kept worth h (call.FinalBill m account cents) (final-bill (worth m) s applied fees account cents)
+  unfolding percentage-of class-of shares-of disbursed-to used-by
+  keeps-final lawful h s m applied fees account cents at i =
+      judged h s m applied fees account cents (λ j. Kept worth h (call.FinalBill m account cents) (final-judged (worth m) s applied fees cents j)) at i
+      (λ why other. keeps-declined worth h s (call.FinalBill m account cents) why other i)
+      good
+    where
+      good : (r : Record) → Billable account cents (s .closed + 1) (s .records) r → Kept worth h (call.FinalBill m account cents) (final-judged (worth m) s applied fees cents (Ok r))
+      good r b =
+          let p : Posting = posting (worth m) r cents in
+          let e : Event M = history.finally-billed m account cents p (r .held - p .used) in
+          let n : Record = ended (s .closed + 1) r in
+          let same = found-account account (s .records) r (b .found) in
+          let f = posted lawful h s m account cents r i b in
+          let q = replaced account cents (s .closed + 1) n r (s .records) same refl b in
+          let bounds = bounds-at (s .phase) applied fees _ at (i .bounds) in
+          let now : open-fees worth (s .phase) ≡ fees = ap (open-fees worth) at in
+          record {
+            event = e;
+            called = refl;
+            answered = refl;
+            stands = record {
+              fits = omega (arith, i .fits, q .size);
+              few = i .few;
+              whole = omega (arith, i .whole, q .whole);
+              readings = omega (arith, i .readings);
+              within = i .within;
+              bounds = omega (arith, f .paid, f .small, bounds, q .count);
+              ties = put-ties (Ties worth h) (Ties worth (e ∷ h)) account n (s .records) r same (b .found) tt
+              (λ a o other t. let none : of-account a account (p .used) ≡ 0 = cond-false _ _ _ other in tied-same _ _ _ (used-by a h) _ _ _ o (cond-false _ _ _ other) refl (omega arith) t)
+              (i .ties);
+              law = record {
+                units = omega (arith, i .law .units, f .inside, q .held);
+                cents = omega (arith, i .law .cents, f .split);
+                each = (f .rule, i .law .each);
+              };
             };
           }
