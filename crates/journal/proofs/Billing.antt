@@ -73,6 +73,7 @@ module _ {M : Type 0} (worth : M → ℕ → ℕ → ℕ) where
     where
       period : ℕ
       period = s .closed + 1
+
       low : (r : Record) → cents ≤ 1_000_000_000 → applied + counted (r .kind) (posting (worth m) r cents .applied) ≤ 10000000000000
       low r small =
           let bounds = bounds-at (s .phase) applied fees _ at (i .bounds) in
@@ -80,6 +81,7 @@ module _ {M : Type 0} (worth : M → ℕ → ℕ → ℕ) where
           let one = counted-within (r .kind) (posting (worth m) r cents .applied) in
           let own = applied-within (worth m) (r .class) (r .held) cents in
           omega (arith, bounds .small, i .fits, i .few)
+
       go : (o : Option Record) → record-of account (s .records) ≡ o → cents ≤ 1_000_000_000 → P (judge-record (worth m) period applied cents o)
       go None e small = no-bill why.NoOpenAccount (omega arith)
       go (Some r) e small =
@@ -149,9 +151,9 @@ module _ {M : Type 0} (worth : M → ℕ → ℕ → ℕ) where
               within = i .within;
               bounds = omega (arith, f .paid, f .small, bounds, q .count);
               ties = put-ties (Ties worth h) (Ties worth (e ∷ h)) account n (s .records) r same (b .found)
-              (held-tie _ _ _ _ _ _ (r .held - p .used) (s .closed + 1) r (omega (arith, f .tie .holds, f .inside)) (f .tie))
-              (λ a o other t. let none : of-account a account (p .used) ≡ 0 = cond-false _ _ _ other in tied-same _ _ _ (used-by a h) _ _ _ o refl refl (omega arith) t)
-              (i .ties);
+                  (held-tie _ _ _ _ _ _ (r .held - p .used) (s .closed + 1) r (omega (arith, f .tie .holds, f .inside)) (f .tie))
+                  (λ a o other t. let none : of-account a account (p .used) ≡ 0 = cond-false _ _ _ other in tied-same _ _ _ (used-by a h) _ _ _ o refl refl (omega arith) t)
+                  (i .ties);
               law = record {
                 units = omega (arith, i .law .units, f .inside, q .held);
                 cents = omega (arith, i .law .cents, f .split);
@@ -189,8 +191,8 @@ module _ {M : Type 0} (worth : M → ℕ → ℕ → ℕ) where
               within = i .within;
               bounds = omega (arith, f .paid, f .small, bounds, q .count);
               ties = put-ties (Ties worth h) (Ties worth (e ∷ h)) account n (s .records) r same (b .found) tt
-              (λ a o other t. let none : of-account a account (p .used) ≡ 0 = cond-false _ _ _ other in tied-same _ _ _ (used-by a h) _ _ _ o (cond-false _ _ _ other) refl (omega arith) t)
-              (i .ties);
+                  (λ a o other t. let none : of-account a account (p .used) ≡ 0 = cond-false _ _ _ other in tied-same _ _ _ (used-by a h) _ _ _ o (cond-false _ _ _ other) refl (omega arith) t)
+                  (i .ties);
               law = record {
                 units = omega (arith, i .law .units, f .inside, q .held);
                 cents = omega (arith, i .law .cents, f .split);

@@ -125,8 +125,8 @@ module _ {M : Type 0} (worth : M → ℕ → ℕ → ℕ) where
           within = i .within;
           bounds = unbounded (s .phase) _ at;
           ties = put-ties (Ties worth h) (Ties worth (history.disbursed account units (s .bank - units) ∷ h)) account n (s .records) r same e tie
-          (λ b o other t. let none : history.of-account b account units ≡ 0 = cond-false _ _ _ other in tied-same _ _ (given b h) _ _ _ _ o refl (omega arith) refl t)
-          (i .ties);
+              (λ b o other t. let none : history.of-account b account units ≡ 0 = cond-false _ _ _ other in tied-same _ _ (given b h) _ _ _ _ o refl (omega arith) refl t)
+              (i .ties);
           law = record { units = omega (arith, i .law); cents = omega (arith, i .law); each = (tt, i .law .each) };
         };
       }
@@ -136,6 +136,7 @@ module _ {M : Type 0} (worth : M → ℕ → ℕ → ℕ) where
     where
       c : Call M
       c = call.Disburse account units
+
       go : (o : Option Record) → record-of account (s .records) ≡ o → Kept worth h c (disburse-to s units o)
       go None e = keeps-declined worth h s c why.NoOpenAccount (omega arith) i
       go (Some r) e =

@@ -173,6 +173,7 @@ entry-tie p k g u a i o (l ∷ ls) ok t =
   where
     now : Option Record
     now = changed unallocated o
+
     go : (b : Bool) → Tied (l .percentage) (l .class) g u (Some (placed l now)) → Tied (percentage-on a ls) (class-on a k ls) g u (entry a ls now) → Tied (cond b (l .percentage) (percentage-on a ls)) (cond b (l .class) (class-on a k ls)) g u (cond b (Some (placed l now)) (entry a ls now))
     go true one rest = one
     go false one rest = rest
