@@ -4,7 +4,7 @@ use Prim.Native.Nat.{ℕ, zero, suc, min, _+_, _*_, _≤_, _<_}
 use native.Mathlib.Nat.{min-le-left, min-le-right, mul-le-mul-left}
 use native.Mathlib.Omega.{arith}
 use lib.Dec.{leb}
-use mathlib.Core.Bool.{true, cond}
+use mathlib.Core.Bool.{true}
 use mathlib.Core.Logic.{⊎-elim}
 use mathlib.Core.Path.{_≡_, refl}
 use Rattle.std.proofs.shelf.Tests.{and-from, cases-lt, cond-both, cond-true, le-leb, leb-true, leb-false}

@@ -1,10 +1,10 @@
 -- A bill and a final bill keep what stands, and each bill keeps its rule.
 use Prim.Native.Nat.{ℕ, _+_, _-_, _*_, _≤_}
 use native.Mathlib.Omega.{arith}
-use mathlib.Core.Bool.{Bool, true, false, cond}
-use mathlib.Core.List.{List, [], _∷_}
+use mathlib.Core.Bool.{true, false, cond}
+use mathlib.Core.List.{List, _∷_}
 use mathlib.Core.Logic.{_≢_}
-use mathlib.Core.Path.{_≡_, refl, ap, sym, subst₂}
+use mathlib.Core.Path.{_≡_, refl, ap, subst₂}
 use lib.Dec.{eqb, ltb}
 use lib.ListN.{length}
 use Rattle.std.proofs.shelf.Tests.{cond-both, cond-false, cond-true, eq-eqb, le-ltb, ltb-false}
@@ -16,13 +16,11 @@ use Rattle.accounts.specs.declared.record.Record.{Record}
 use Rattle.crediting.proofs.Fewest.{used-within}
 use Rattle.crediting.specs.Credits.{Credited, Lawful}
 use Rattle.crediting.specs.Ranges.{is-class}
-use Rattle.ledger.specs.declared.call.Call.{Call}
 use Rattle.ledger.specs.declared.call.Call.the-variants as call
 use Rattle.ledger.specs.declared.call.Posting.{Posting}
 use Rattle.ledger.specs.declared.call.Refusal.{Refusal}
 use Rattle.ledger.specs.declared.call.Refusal.the-variants as why
-use Rattle.ledger.specs.declared.phase.Phase.{Phase}
-use Rattle.ledger.specs.declared.phase.Phase.the-variants.{Between, InPeriod}
+use Rattle.ledger.specs.declared.phase.Phase.the-variants.{InPeriod}
 use Rattle.ledger.specs.Records.{billed, ended, is-closed, put, record-of}
 use Rattle.ledger.specs.Refusals.{number}
 use Rattle.ledger.specs.Rules.{counted}
@@ -34,7 +32,7 @@ use Rattle.journal.specs.Histories.{Event, History, class-of, disbursed-to, gi
 use Rattle.journal.specs.Laws.{Bill-rule, open-fees}
 use Rattle.journal.proofs.Amounts.{applied-within, counted-within, credited, fee-enough, in-range-all, net-within}
 use Rattle.journal.proofs.Found.{found-account, found-within, put-length, put-total}
-use Rattle.journal.proofs.Standing.{In-bounds, Kept, Stands, Ties, billed-in, bounds-at, keeps-declined}
+use Rattle.journal.proofs.Standing.{Kept, Stands, Ties, billed-in, bounds-at, keeps-declined}
 use Rattle.journal.proofs.Ties.{Tied-open, found-tie, held-tie, put-ties, tied-same}
 use Rattle.journal.proofs.Totals.{count-within}
 

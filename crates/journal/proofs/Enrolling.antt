@@ -1,10 +1,10 @@
 -- An enrolment keeps what stands.
 use Prim.Native.Nat.{ℕ, _+_, _-_, _≤_}
 use native.Mathlib.Omega.{arith}
-use mathlib.Core.Bool.{Bool, true, false, cond, not, _&&_, _||_}
+use mathlib.Core.Bool.{Bool, true, not, _&&_, _||_}
 use mathlib.Core.List.{List, [], _∷_, map}
 use mathlib.Core.Logic.{_≢_}
-use mathlib.Core.Path.{_≡_, refl, sym, ap, subst, _∙_}
+use mathlib.Core.Path.{_≡_, refl, ap}
 use lib.Dec.{ltb}
 use lib.ListN.{length}
 use Rattle.std.proofs.shelf.Lists.{length-map}
@@ -18,14 +18,13 @@ use Rattle.std.specs.declared.result.Result.the-variants.{Ok, Err}
 use Rattle.std.specs.declared.vec.Vec.{Vec}
 use Rattle.accounts.specs.declared.record.Line.{Line}
 use Rattle.accounts.specs.declared.record.Record.{Record}
-use Rattle.accounts.specs.Books.{accounts, distinct, present}
+use Rattle.accounts.specs.Books.{accounts, distinct}
 use Rattle.accounts.specs.Ranges.{line-in-range}
-use Rattle.ledger.specs.declared.call.Call.{Call}
 use Rattle.ledger.specs.declared.call.Call.the-variants as call
 use Rattle.ledger.specs.declared.call.Refusal.{Refusal}
 use Rattle.ledger.specs.declared.call.Refusal.the-variants as why
 use Rattle.ledger.specs.declared.phase.Phase.the-variants.{Between}
-use Rattle.ledger.specs.Lines.{enrolled, judge-lines, large-percentage, line-accounts, names-closed, new-accounts, repeated-from, unless-at}
+use Rattle.ledger.specs.Lines.{enrolled, judge-lines, large-percentage, line-accounts, new-accounts, unless-at}
 use Rattle.ledger.specs.Records.{record-of, unallocated}
 use Rattle.ledger.specs.Refusals.{number}
 use Rattle.ledger.specs.States.{State}
@@ -33,8 +32,8 @@ use Rattle.ledger.specs.Steps.{enrol, enrol-judged}
 use Rattle.ledger.specs.Sums.{first-from, total}
 use Rattle.journal.specs.Histories as history
 use Rattle.journal.specs.Histories.{History, class-of, disbursed-to, percentage-of, shares-of, used-by}
-use Rattle.journal.proofs.Entering.{entered-found, entered-held, entered-length, entered-percentages, entry, repeated-distinct}
-use Rattle.journal.proofs.Found.{changed, map-found}
+use Rattle.journal.proofs.Entering.{entered-found, entered-held, entered-length, entered-percentages, repeated-distinct}
+use Rattle.journal.proofs.Found.{map-found}
 use Rattle.journal.proofs.Standing.{Kept, Stands, keeps-declined, unbounded}
 use Rattle.journal.proofs.Ties.{entry-tie}
 use Rattle.journal.proofs.Totals.{total-map, total-nothing}

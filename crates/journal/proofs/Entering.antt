@@ -1,9 +1,9 @@
 -- What the lines of a request make of the records: who has a record and which, how many there are, and their sums.
 use Prim.Native.Nat.{ℕ, _+_, _≤_}
 use native.Mathlib.Omega.{arith}
-use mathlib.Core.Bool.{Bool, true, false, cond, not, _&&_, _||_}
-use mathlib.Core.List.{List, [], _∷_, _++_, map}
-use mathlib.Core.Path.{_≡_, refl, sym, ap, subst, _∙_}
+use mathlib.Core.Bool.{Bool, true, false, cond, not}
+use mathlib.Core.List.{List, [], _∷_, _++_}
+use mathlib.Core.Path.{_≡_, refl, sym, ap, _∙_}
 use lib.Dec.{eqb}
 use lib.ListN.{length}
 use Rattle.std.proofs.shelf.Lists.{length-push, map-push}
@@ -17,7 +17,7 @@ use Rattle.accounts.specs.declared.record.Line.{Line}
 use Rattle.accounts.specs.declared.record.Record.{Record}
 use Rattle.accounts.specs.Books.{accounts, present, distinct}
 use Rattle.ledger.specs.Lines.{enter, enter-all, is-new, line-accounts, new-accounts, repeated-from}
-use Rattle.ledger.specs.Records.{allocated, joining, put, record-of, unallocated}
+use Rattle.ledger.specs.Records.{allocated, joining, put, record-of}
 use Rattle.ledger.specs.Sums.{total, first-from}
 use Rattle.journal.proofs.Found.{found-account, push-found, put-found, put-length, put-total}
 use Rattle.journal.proofs.Totals.{total-push}

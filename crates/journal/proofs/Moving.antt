@@ -1,14 +1,13 @@
 -- A reading and a disbursement keep what stands.
-use Prim.Native.Nat.{ℕ, _+_, _-_, _*_, _/_, _≤_}
+use Prim.Native.Nat.{ℕ, _+_, _-_, _≤_}
 use native.Mathlib.Nat.{mul-le-mul-left}
 use native.Mathlib.Omega.{arith}
-use mathlib.Core.Bool.{Bool, true, false, cond, _||_}
+use mathlib.Core.Bool.{false, _||_}
 use mathlib.Core.List.{List, [], _∷_, map}
-use mathlib.Core.Path.{_≡_, refl, ap, sym, _∙_}
+use mathlib.Core.Path.{_≡_, refl, ap, _∙_}
 use lib.Dec.{eqb, leb, ltb}
-use lib.ListN.{length}
 use Rattle.std.proofs.shelf.Lists.{length-map}
-use Rattle.std.proofs.shelf.Tests.{both-ways, cond-both, cond-false, cond-true, eq-eqb, le-ltb, ltb-false, or-from, or-parts}
+use Rattle.std.proofs.shelf.Tests.{cond-false, cond-true, eq-eqb, le-ltb, ltb-false, or-from, or-parts}
 use Rattle.std.specs.declared.option.Option.{Option}
 use Rattle.std.specs.declared.option.Option.the-variants.{None, Some}
 use Rattle.accounts.specs.declared.record.Record.{Record}
@@ -16,7 +15,6 @@ use Rattle.ledger.specs.declared.call.Call.{Call}
 use Rattle.ledger.specs.declared.call.Call.the-variants as call
 use Rattle.ledger.specs.declared.call.Done.the-variants.{Disbursed, Opened}
 use Rattle.ledger.specs.declared.call.Refusal.the-variants as why
-use Rattle.ledger.specs.declared.phase.Phase.{Phase}
 use Rattle.ledger.specs.declared.phase.Phase.the-variants.{Between, InPeriod}
 use Rattle.ledger.specs.Records.{gaining, holding, is-closed, put, record-of}
 use Rattle.ledger.specs.Rules.{share}
@@ -26,9 +24,9 @@ use Rattle.ledger.specs.Sums.{some, total}
 use Rattle.journal.specs.Histories as history
 use Rattle.journal.specs.Histories.{History, class-of, disbursed-to, given, percentage-of, shares-of, used-by}
 use Rattle.journal.specs.Laws.{open-fees}
-use Rattle.journal.proofs.Found.{changed, found-account, found-within, map-found, put-length, put-total}
+use Rattle.journal.proofs.Found.{found-account, found-within, map-found, put-length, put-total}
 use Rattle.journal.proofs.Standing.{Kept, Stands, Ties, keeps-declined, keeps-past, keeps-unless, unbounded}
-use Rattle.journal.proofs.Ties.{Tied-open, found-tie, gain-tie, held-tie, put-ties, tied-same}
+use Rattle.journal.proofs.Ties.{found-tie, gain-tie, held-tie, put-ties, tied-same}
 use Rattle.journal.proofs.Totals.{shares-within, total-map, total-plus}
 
 -- no element passes what all are together

@@ -21,19 +21,7 @@ use Rattle.ledger.specs.States.{State, Outcome, declined}
 use Rattle.ledger.specs.Steps.{opened, lapse, close}
 use Rattle.ledger.specs.Sums.{total}
 use Rattle.journal.specs.Histories as history
-use Rattle.journal.specs.Histories.{
-  Event,
-  History,
-  answer-of,
-  call-of,
-  class-of,
-  disbursed-to,
-  given,
-  percentage-of,
-  shares-of,
-  units-read,
-  used-by,
-}
+use Rattle.journal.specs.Histories.{Event, History, answer-of, call-of, class-of, disbursed-to, given, percentage-of, shares-of, units-read, used-by}
 use Rattle.journal.specs.Laws.{Law, open-fees}
 use Rattle.journal.proofs.Amounts.{utility-within}
 use Rattle.journal.proofs.Ties.{Tied}
