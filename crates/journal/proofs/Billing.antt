@@ -36,7 +36,7 @@ use Rattle.journal.proofs.Standing.{Kept, Stands, Ties, billed-in, bounds-at, 
 use Rattle.journal.proofs.Ties.{Tied-open, found-tie, held-tie, put-ties, tied-same}
 use Rattle.journal.proofs.Totals.{count-within}
 
--- of an open account's record in a period
+-- the record that a bill is of: its account open, not yet billed in the period, and the bill in range
 record Billable (account cents period : ℕ) (rs : List Record) (r : Record) : Type 0 where
   found : record-of account rs ≡ Some r
   unclosed : is-closed (r .state) ≡ false

@@ -47,7 +47,7 @@ repeated-distinct i earlier (x ∷ later) e =
     grind (arith, tells)
 
 -- an account is present where it has a record
-pub present-found : (a : ℕ) (rs : List Record) → present a (accounts rs) ≡ isSome (record-of a rs)
+present-found : (a : ℕ) (rs : List Record) → present a (accounts rs) ≡ isSome (record-of a rs)
 present-found a [] = refl
 present-found a (r ∷ rs) = let ih = present-found a rs in grind (arith, tells)
 

@@ -30,17 +30,17 @@ use Rattle.journal.proofs.Ties.{found-tie, gain-tie, held-tie, put-ties, tied-
 use Rattle.journal.proofs.Totals.{shares-within, total-map, total-plus}
 
 -- no element passes what all are together
-pub none-pass : {X : Type 0} (f : X → ℕ) (xs : List X) (n : ℕ) → total f xs ≤ n → some (λ x. ltb n (f x)) xs ≡ false
+none-pass : {X : Type 0} (f : X → ℕ) (xs : List X) (n : ℕ) → total f xs ≤ n → some (λ x. ltb n (f x)) xs ≡ false
 none-pass f [] n h = refl
 none-pass f (x ∷ xs) n h = or-from (ltb n (f x)) _ (le-ltb n (f x) (omega arith)) (none-pass f xs n (omega arith))
 
 -- the shares of a reading are within it
-pub shares-fit : (units : ℕ) (rs : List Record) → total (λ r. r .percentage) rs ≤ 100000 → shares units rs ≤ units
+shares-fit : (units : ℕ) (rs : List Record) → total (λ r. r .percentage) rs ≤ 100000 → shares units rs ≤ units
 shares-fit units rs whole =
     omega (arith, shares-within units (λ (r : Record). r .percentage) rs, mul-le-mul-left {m = total (λ r. r .percentage) rs} {n = 100000} units whole)
 
 -- what the records hold after it
-pub gained-held : (units : ℕ) (rs : List Record) → total (λ r. r .held) (map (gaining units) rs) ≡ total (λ r. r .held) rs + shares units rs
+gained-held : (units : ℕ) (rs : List Record) → total (λ r. r .held) (map (gaining units) rs) ≡ total (λ r. r .held) rs + shares units rs
 gained-held units rs = total-map (λ r. r .held) (gaining units) rs ∙ total-plus (λ r. r .held) (λ r. share units (r .percentage)) rs
 
 -- what an accepted reading leaves

@@ -46,7 +46,7 @@ pub unbounded : (phase : Phase) (billed : ℕ) → phase ≡ Between → Bounds 
 unbounded phase billed at = subst (λ p. Bounds p billed) (sym at) tt
 
 module _ {M : Type 0} (worth : M → ℕ → ℕ → ℕ) where
-  -- what an account's record has to do with a history
+  -- an account's record says of it what the history says
   abbrev pub Ties : History M → ℕ → Option Record → Type 0
   Ties h a o = Tied (percentage-of a h) (class-of a h) (given a h) (used-by a h) o
 

@@ -72,7 +72,7 @@ found-tie p k g u o r e unclosed t = go (r .state) unclosed (subst (λ x. Tied p
     go Open unclosed t = t
     go Closed unclosed t = let z : _≡_ {A = ℕ} 0 1 = cc in absurd (omega arith)
 
-pub tied-in : (p k g u : ℕ) (r : Record) (s : state.State) → Tied-open p k g u r → Tied-in p k g u r s
+tied-in : (p k g u : ℕ) (r : Record) (s : state.State) → Tied-open p k g u r → Tied-in p k g u r s
 tied-in p k g u r Open t = t
 tied-in p k g u r Closed t = tt
 
