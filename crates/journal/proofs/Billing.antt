@@ -31,10 +31,10 @@ use Rattle.journal.specs.Histories as history
 use Rattle.journal.specs.Histories.{Event, History, class-of, disbursed-to, given, of-account, percentage-of, shares-of, used-by}
 use Rattle.journal.specs.Laws.{Bill-rule, open-fees}
 use Rattle.journal.proofs.Amounts.{applied-within, counted-within, credited, fee-enough, in-range-all, net-within}
-use Rattle.journal.proofs.Found.{found-account, found-within, put-length, put-total}
+use Rattle.ledger.proofs.Found.{found-account, found-within, put-length, put-total}
 use Rattle.journal.proofs.Standing.{Kept, Stands, Ties, billed-in, bounds-at, keeps-declined}
 use Rattle.journal.proofs.Ties.{Tied-open, found-tie, held-tie, put-ties, tied-same}
-use Rattle.journal.proofs.Totals.{count-within}
+use Rattle.ledger.proofs.Totals.{count-within}
 
 -- the record that a bill is of: its account open, not yet billed in the period, and the bill in range
 record Billable (account cents period : ℕ) (rs : List Record) (r : Record) : Type 0 where

@@ -19,41 +19,8 @@ use Rattle.accounts.specs.Books.{accounts, present, distinct}
 use Rattle.ledger.specs.Lines.{enter, enter-all, is-new, line-accounts, new-accounts, repeated-from}
 use Rattle.ledger.specs.Records.{allocated, joining, put, record-of}
 use Rattle.ledger.specs.Sums.{total, first-from}
-use Rattle.journal.proofs.Found.{found-account, push-found, put-found, put-length, put-total}
-use Rattle.journal.proofs.Totals.{total-push}
-
--- a test that passes nowhere
-pub nowhere : {X : Type 0} (i : ℕ) (test : X → Bool) (x : X) (xs : List X) → first-from i test (x ∷ xs) ≡ None → (test x ≡ false) × (first-from (i + 1) test xs ≡ None)
-nowhere i test x xs = go (test x)
-  where
-    go : (b : Bool) → cond b (Some i) (first-from (i + 1) test xs) ≡ None → (b ≡ false) × (first-from (i + 1) test xs ≡ None)
-    go true e = let z : _≡_ {A = ℕ} 0 1 = cc in absurd (omega arith)
-    go false e = (refl, e)
-
--- accounts of which none is repeated stand on no later line
-unrepeated : (a i : ℕ) (earlier later : List ℕ) → repeated-from i earlier later ≡ None → present a earlier ≡ true → present a later ≡ false
-unrepeated a i earlier [] e p = refl
-unrepeated a i earlier (x ∷ later) e p =
-    let ih = unrepeated a (i + 1) (earlier ++ x ∷ []) later in
-    let q = present-push a x earlier in
-    grind (arith, tells)
-
-pub repeated-distinct : (i : ℕ) (earlier later : List ℕ) → repeated-from i earlier later ≡ None → distinct later ≡ true
-repeated-distinct i earlier [] e = refl
-repeated-distinct i earlier (x ∷ later) e =
-    let ih = repeated-distinct (i + 1) (earlier ++ x ∷ []) later in
-    let q = present-push x x earlier in
-    let u = unrepeated x (i + 1) (earlier ++ x ∷ []) later in
-    grind (arith, tells)
-
--- an account is present where it has a record
-present-found : (a : ℕ) (rs : List Record) → present a (accounts rs) ≡ isSome (record-of a rs)
-present-found a [] = refl
-present-found a (r ∷ rs) = let ih = present-found a rs in grind (arith, tells)
-
-accounts-put : (n : Record) (rs : List Record) → accounts (put n rs) ≡ accounts rs
-accounts-put n [] = refl
-accounts-put n (r ∷ rs) = let ih = accounts-put n rs in grind (arith, tells)
+use Rattle.ledger.proofs.Found.{found-account, push-found, put-found, put-length, put-total, present-found, accounts-put}
+use Rattle.ledger.proofs.Totals.{total-push}
 
 -- a line's values for an account that has a record, or has none
 abbrev pub placed : Line → Option Record → Record

@@ -24,10 +24,10 @@ use Rattle.ledger.specs.Sums.{some, total}
 use Rattle.journal.specs.Histories as history
 use Rattle.journal.specs.Histories.{History, class-of, disbursed-to, given, percentage-of, shares-of, used-by}
 use Rattle.journal.specs.Laws.{open-fees}
-use Rattle.journal.proofs.Found.{found-account, found-within, map-found, put-length, put-total}
+use Rattle.ledger.proofs.Found.{found-account, found-within, map-found, put-length, put-total}
 use Rattle.journal.proofs.Standing.{Kept, Stands, Ties, keeps-declined, keeps-past, keeps-unless, unbounded}
 use Rattle.journal.proofs.Ties.{found-tie, gain-tie, held-tie, put-ties, tied-same}
-use Rattle.journal.proofs.Totals.{shares-within, total-map, total-plus}
+use Rattle.ledger.proofs.Totals.{shares-within, total-map, total-plus}
 
 -- no element passes what all are together
 none-pass : {X : Type 0} (f : X → ℕ) (xs : List X) (n : ℕ) → total f xs ≤ n → some (λ x. ltb n (f x)) xs ≡ false

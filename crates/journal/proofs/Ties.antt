@@ -19,8 +19,9 @@ use Rattle.ledger.specs.Records.{gaining, is-closed, put, record-of, unallocate
 use Rattle.ledger.specs.Rules.{share}
 use Rattle.ledger.specs.Sums.{first-from}
 use Rattle.journal.specs.Histories.{class-on, percentage-on}
-use Rattle.journal.proofs.Entering.{entry, nowhere, placed}
-use Rattle.journal.proofs.Found.{changed, put-found}
+use Rattle.journal.proofs.Entering.{entry, placed}
+use Rattle.ledger.proofs.Found.{nowhere}
+use Rattle.ledger.proofs.Found.{changed, put-found}
 
 -- an account with no record has been given nothing
 pub record Unknown (percentage given used : ℕ) : Type 0 where

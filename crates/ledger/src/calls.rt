@@ -25,8 +25,8 @@ impl Ledger {
         ensures steps { λ r. ⌜ (sound (now (book .entry)) → outcome (now (self .exit)) (room (now (book .exit))) (records (now (book .exit))) r ≡ step worth (view (now (self .entry)) (room (now (book .entry))) (records (now (book .entry)))) (now (call .entry))) ⌝ }
     {
         match (&mut self.phase, call) {
-            (Phase::Between, Call::Enrol(_)) => Err(Refusal::InPeriod),
-            (Phase::Between, Call::Reading(units)) => Err(Refusal::InPeriod),
+            (Phase::Between, Call::Enrol(lines)) => self.enrol(book, lines.as_slice()),
+            (Phase::Between, Call::Reading(units)) => self.reading(book, *units),
             (Phase::Between, Call::Disburse { account, units }) => self.disburse(book, *account, *units),
             (Phase::Between, Call::Lapse) => {
                 let forfeited = self.bank;

@@ -1,17 +1,19 @@
 -- The record of an account in a list of records, after one is put in its place, all are changed, or one joins.
 use Prim.Native.Nat.{ℕ, _+_, _≤_}
 use native.Mathlib.Omega.{arith}
-use mathlib.Core.Bool.{cond}
+use mathlib.Core.Bool.{Bool, true, false, cond}
 use mathlib.Core.List.{List, [], _∷_, _++_, map}
 use mathlib.Core.Path.{_≡_, refl}
 use lib.Dec.{eqb}
 use lib.ListN.{length}
 use Rattle.std.proofs.shelf.Ways.{tells}
+use Rattle.std.specs.Options.{isSome}
 use Rattle.std.specs.declared.option.Option.{Option}
 use Rattle.std.specs.declared.option.Option.the-variants.{None, Some}
 use Rattle.accounts.specs.declared.record.Record.{Record}
 use Rattle.ledger.specs.Records.{record-of, put}
-use Rattle.ledger.specs.Sums.{total}
+use Rattle.accounts.specs.Books.{accounts, present}
+use Rattle.ledger.specs.Sums.{total, first-from}
 
 -- the record that is found is of the account
 pub found-account : (a : ℕ) (rs : List Record) (r : Record) → record-of a rs ≡ Some r → r .account ≡ a
@@ -48,3 +50,21 @@ map-found f same a (x ∷ rs) = let ih = map-found f same a rs in let e = same x
 pub push-found : (a : ℕ) (n : Record) (rs : List Record) → record-of (n .account) rs ≡ None → record-of a (rs ++ n ∷ []) ≡ cond (eqb (n .account) a) (Some n) (record-of a rs)
 push-found a n [] e = refl
 push-found a n (x ∷ rs) e = let ih = push-found a n rs in grind (arith, tells)
+
+-- an account is present where it has a record
+pub present-found : (a : ℕ) (rs : List Record) → present a (accounts rs) ≡ isSome (record-of a rs)
+present-found a [] = refl
+present-found a (r ∷ rs) = let ih = present-found a rs in grind (arith, tells)
+
+pub accounts-put : (n : Record) (rs : List Record) → accounts (put n rs) ≡ accounts rs
+accounts-put n [] = refl
+accounts-put n (r ∷ rs) = let ih = accounts-put n rs in grind (arith, tells)
+
+-- a test that passes nowhere
+pub nowhere : {X : Type 0} (i : ℕ) (test : X → Bool) (x : X) (xs : List X) → first-from i test (x ∷ xs) ≡ None → (test x ≡ false) × (first-from (i + 1) test xs ≡ None)
+nowhere i test x xs = go (test x)
+  where
+    go : (b : Bool) → cond b (Some i) (first-from (i + 1) test xs) ≡ None → (b ≡ false) × (first-from (i + 1) test xs ≡ None)
+    go true e = let z : _≡_ {A = ℕ} 0 1 = cc in absurd (omega arith)
+    go false e = (refl, e)
+
