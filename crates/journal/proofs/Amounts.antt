@@ -1,7 +1,6 @@
--- What a bill comes to: its credit is by the rule, net credit and fee are the applied credit, and a member's fee is at
--- least a fiftieth of its credit; and the utility fee of a close is within its fees.
-use Prim.Native.Nat.{ℕ, zero, suc, min, _+_, _*_, _≤_, _<_}
-use native.Mathlib.Nat.{min-le-left, min-le-right, mul-le-mul-left}
+-- What a bill comes to: its credit is by the rule, and net credit and fee are the applied credit.
+use Prim.Native.Nat.{ℕ, zero, suc, min, _+_, _≤_, _<_}
+use native.Mathlib.Nat.{min-le-left, min-le-right}
 use native.Mathlib.Omega.{arith}
 use lib.Dec.{leb}
 use mathlib.Core.Bool.{true}
@@ -12,7 +11,8 @@ use Rattle.accounts.specs.declared.record.Kind.{Kind}
 use Rattle.accounts.specs.declared.record.Kind.the-variants.{Member, Anchor}
 use Rattle.crediting.specs.Credits.{Credited, Lawful, applied-credit, smallest, units-used}
 use Rattle.crediting.specs.Ranges.{has-worth, in-ranges, is-class}
-use Rattle.ledger.specs.Rules.{counted, net-credit, subscription-fee, utility-fee}
+use Rattle.ledger.specs.Rules.{counted, net-credit, subscription-fee}
+use Rattle.ledger.proofs.Fees.{net-within}
 
 -- the units counted down to are worth enough, where all are
 smallest-enough : (W : ℕ → ℕ) (c u : ℕ) → c ≤ W u → c ≤ W (smallest W c u)
@@ -55,17 +55,10 @@ pub applied-within : (W : ℕ → ℕ → ℕ) (k u b : ℕ) → applied-credit 
 applied-within W k u b =
     cond-both (in-ranges k u b) (min b (W k u)) 0 (λ x. x ≤ b) (λ _. min-le-left b (W k u)) (λ _. omega arith)
 
-pub net-within : (kind : Kind) (savings c : ℕ) → savings ≤ 9800 → net-credit kind savings c + subscription-fee kind savings c ≡ c
-net-within Member savings c low = omega (arith, mul-le-mul-left {m = savings} {n = 9800} c low)
-net-within Anchor savings c low = omega arith
+-- net credit and fee are the applied credit
+pub net-and-fee : (kind : Kind) (savings c : ℕ) → savings ≤ 9800 → net-credit kind savings c + subscription-fee kind savings c ≡ c
+net-and-fee kind savings c low = omega (arith, net-within kind savings c low)
 
 pub counted-within : (kind : Kind) (c : ℕ) → counted kind c ≤ c
 counted-within Member c = omega arith
 counted-within Anchor c = omega arith
-
-pub fee-enough : (kind : Kind) (savings c : ℕ) → savings ≤ 9800 → counted kind c ≤ 50 * subscription-fee kind savings c
-fee-enough Member savings c low = omega (arith, mul-le-mul-left {m = savings} {n = 9800} c low)
-fee-enough Anchor savings c low = omega arith
-
-pub utility-within : (applied fees : ℕ) → applied ≤ 50 * fees → utility-fee applied ≤ fees
-utility-within applied fees h = omega arith

@@ -29,8 +29,10 @@ use Rattle.ledger.specs.Steps.{bill, bill-judged, final-bill, final-judged, jud
 use Rattle.ledger.specs.Sums.{total}
 use Rattle.journal.specs.Histories as history
 use Rattle.journal.specs.Histories.{Event, History, class-of, disbursed-to, given, of-account, percentage-of, shares-of, used-by}
-use Rattle.journal.specs.Laws.{Bill-rule, open-fees}
-use Rattle.journal.proofs.Amounts.{applied-within, counted-within, credited, fee-enough, in-range-all, net-within}
+use Rattle.ledger.specs.Phases.{fees-in}
+use Rattle.journal.specs.Laws.{Bill-rule}
+use Rattle.journal.proofs.Amounts.{applied-within, counted-within, credited, in-range-all, net-and-fee}
+use Rattle.ledger.proofs.Fees.{fee-covers}
 use Rattle.ledger.proofs.Found.{found-account, found-within, put-length, put-total}
 use Rattle.journal.proofs.Standing.{Kept, Stands, Ties, billed-in, bounds-at, keeps-declined}
 use Rattle.journal.proofs.Ties.{Tied-open, found-tie, held-tie, put-ties, tied-same}
@@ -114,8 +116,8 @@ module _ {M : Type 0} (worth : M → ℕ → ℕ → ℕ) where
           credit = subst₂ (λ k u. Credited (worth m k) u cents (p .applied) (p .used)) (t .classed) had c;
         };
         inside = used-within (worth m) (r .class) (r .held) cents;
-        split = net-within (r .kind) (r .savings) (p .applied) (t .low);
-        paid = fee-enough (r .kind) (r .savings) (p .applied) (t .low);
+        split = net-and-fee (r .kind) (r .savings) (p .applied) (t .low);
+        paid = fee-covers (r .kind) (r .savings) (p .applied) (t .low);
         small = omega (arith, b .small);
       }
 
@@ -135,7 +137,7 @@ module _ {M : Type 0} (worth : M → ℕ → ℕ → ℕ) where
           let f = posted lawful h s m account cents r i b in
           let q = replaced account cents (s .closed + 1) n r (s .records) same refl b in
           let bounds = bounds-at (s .phase) applied fees _ at (i .bounds) in
-          let now : open-fees worth (s .phase) ≡ fees = ap (open-fees worth) at in
+          let now : fees-in (s .phase) ≡ fees = ap (fees-in) at in
           let own : of-account account account (p .used) ≡ p .used = cond-true _ _ _ (eq-eqb account account refl) in
           record {
             event = e;
@@ -176,7 +178,7 @@ module _ {M : Type 0} (worth : M → ℕ → ℕ → ℕ) where
           let f = posted lawful h s m account cents r i b in
           let q = replaced account cents (s .closed + 1) n r (s .records) same refl b in
           let bounds = bounds-at (s .phase) applied fees _ at (i .bounds) in
-          let now : open-fees worth (s .phase) ≡ fees = ap (open-fees worth) at in
+          let now : fees-in (s .phase) ≡ fees = ap (fees-in) at in
           record {
             event = e;
             called = refl;

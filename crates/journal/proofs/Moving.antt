@@ -23,7 +23,7 @@ use Rattle.ledger.specs.Steps.{disburse, disburse-to, foreign-to-reading, readi
 use Rattle.ledger.specs.Sums.{some, total}
 use Rattle.journal.specs.Histories as history
 use Rattle.journal.specs.Histories.{History, class-of, disbursed-to, given, percentage-of, shares-of, used-by}
-use Rattle.journal.specs.Laws.{open-fees}
+use Rattle.ledger.specs.Phases.{fees-in}
 use Rattle.ledger.proofs.Found.{found-account, found-within, map-found, put-length, put-total}
 use Rattle.journal.proofs.Standing.{Kept, Stands, Ties, keeps-declined, keeps-past, keeps-unless, unbounded}
 use Rattle.journal.proofs.Ties.{found-tie, gain-tie, held-tie, put-ties, tied-same}
@@ -69,7 +69,7 @@ module _ {M : Type 0} (worth : M → ℕ → ℕ → ℕ) where
   keeps-gains : (h : History M) (s : State) (units : ℕ) → s .phase ≡ Between → Stands worth h s → s .read + units ≤ 1_000_000_000_000 → Kept worth h (call.Reading units) (gained s units)
   unfolding percentage-of class-of shares-of disbursed-to used-by
   keeps-gains h s units at i small =
-      let shut : open-fees worth (s .phase) ≡ 0 = ap (open-fees worth) at in
+      let shut : fees-in (s .phase) ≡ 0 = ap (fees-in) at in
       let fit = shares-fit units (s .records) (i .whole) in
       let held = gained-held units (s .records) in
       let same = total-map (λ (r : Record). r .percentage) (gaining units) (s .records) in

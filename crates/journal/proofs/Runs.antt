@@ -3,17 +3,24 @@
 use Prim.Native.Nat.{ℕ, _≤_}
 use mathlib.Core.Bool.{Bool, true}
 use mathlib.Core.List.{List, [], _∷_, map, reverseAux}
-use mathlib.Core.Path.{_≡_, refl, ap, _∙_}
+use mathlib.Core.Path.{_≡_, refl, sym, ap, subst, _∙_}
+use native.Mathlib.Omega.{arith}
+use lib.ListN.{length}
+use Rattle.std.proofs.shelf.Ways.{tells}
+use Rattle.std.specs.declared.option.Option.{Option}
+use Rattle.std.specs.declared.option.Option.the-variants.{None, Some}
 use Rattle.std.specs.declared.result.Result.{Result}
+use Rattle.std.specs.declared.result.Result.the-variants.{Ok}
+use Rattle.accounts.specs.declared.record.Record.{Record}
 use Rattle.crediting.specs.Credits.{Lawful}
 use Rattle.crediting.specs.Ranges.{is-class}
 use Rattle.ledger.specs.declared.call.Call.{Call}
 use Rattle.ledger.specs.declared.call.Done.{Done}
 use Rattle.ledger.specs.declared.call.Refusal.{Refusal}
 use Rattle.ledger.specs.States.{State}
-use Rattle.ledger.specs.Steps.{opened, step}
+use Rattle.ledger.specs.Steps.{judge-open, open-answer, opened, step}
 use Rattle.journal.specs.Histories.{History, answer-of, call-of}
-use Rattle.journal.specs.Laws.{Law, Lawful-run, after, answers}
+use Rattle.journal.specs.Laws.{Law, Lawful-run, Ran, after, answers}
 use Rattle.journal.proofs.Standing.{Stands, stands-opened}
 use Rattle.journal.proofs.Stepping.{keeps-step}
 
@@ -46,3 +53,21 @@ runs-lawfully worth lawful smallest farm room few calls =
       answers-told = run .answers-told;
       law = run .law;
     }
+
+-- an opening that is accepted is refused for nothing, so it is on an empty book
+pub accepted : (judged : Option Refusal) (u : Unit {0}) → Ok u ≡ open-answer judged → judged ≡ None
+accepted None u e = refl
+accepted (Some why) u e = let z : _≡_ {A = ℕ} 0 1 = cc in absurd (omega arith)
+
+empty : (smallest : ℕ) (rs : List Record) → judge-open smallest (length rs) ≡ None → rs ≡ []
+empty smallest [] e = refl
+empty smallest (r ∷ rs) e = let z : _≡_ {A = ℕ} 0 1 = grind (arith, tells) in absurd (omega arith)
+
+pub ran : {M : Type 0} (worth : M → ℕ → ℕ → ℕ) (lawful : (m : M) (k : ℕ) → is-class k ≡ true → Lawful (worth m k)) (smallest : ℕ) (farm : Bool) (room : ℕ) (rs : List Record) (calls : List (Call M)) (said : List (Result Done Refusal)) (start end : State) → room ≤ 4096 → judge-open smallest (length rs) ≡ None → start ≡ opened smallest farm room rs → end ≡ after worth start calls → said ≡ answers worth start calls → Ran worth (opened smallest farm room rs) calls said end
+ran {M} worth lawful smallest farm room rs calls said start end few judged starts ends says =
+    let ended = ends ∙ ap (λ s. after worth s calls) starts in
+    let told = says ∙ ap (λ s. answers worth s calls) starts in
+    let none = empty smallest rs judged in
+    let P : List Record → Type 0 = λ xs. Lawful-run worth calls (answers worth (opened smallest farm room xs) calls) (after worth (opened smallest farm room xs) calls) in
+    let law : P rs = subst P (sym none) (runs-lawfully worth lawful smallest farm room few calls) in
+    record { performed = ended; answered = told; lawful = rw (ended, told) law }

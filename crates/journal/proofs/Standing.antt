@@ -22,8 +22,9 @@ use Rattle.ledger.specs.Steps.{opened, lapse, close}
 use Rattle.ledger.specs.Sums.{total}
 use Rattle.journal.specs.Histories as history
 use Rattle.journal.specs.Histories.{Event, History, answer-of, call-of, class-of, disbursed-to, given, percentage-of, shares-of, units-read, used-by}
-use Rattle.journal.specs.Laws.{Law, open-fees}
-use Rattle.journal.proofs.Amounts.{utility-within}
+use Rattle.ledger.specs.Phases.{fees-in}
+use Rattle.journal.specs.Laws.{Law}
+use Rattle.ledger.proofs.Fees.{utility-covered}
 use Rattle.journal.proofs.Ties.{Tied}
 
 -- how many records were billed in a period
@@ -134,8 +135,8 @@ module _ {M : Type 0} (worth : M → ℕ → ℕ → ℕ) where
   unfolding percentage-of class-of shares-of disbursed-to used-by
   keeps-close h s applied fees at i =
       let bounds = bounds-at (s .phase) applied fees _ at (i .bounds) in
-      let now : open-fees worth (s .phase) ≡ fees = ap (open-fees worth) at in
-      let most = utility-within applied fees (bounds .paid) in
+      let now : fees-in (s .phase) ≡ fees = ap (fees-in) at in
+      let most = utility-covered applied fees (bounds .paid) in
       record {
         event = history.closed _;
         called = refl;

@@ -67,4 +67,3 @@ nowhere i test x xs = go (test x)
     go : (b : Bool) → cond b (Some i) (first-from (i + 1) test xs) ≡ None → (b ≡ false) × (first-from (i + 1) test xs ≡ None)
     go true e = let z : _≡_ {A = ℕ} 0 1 = cc in absurd (omega arith)
     go false e = (refl, e)
-

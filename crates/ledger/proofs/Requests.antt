@@ -99,5 +99,5 @@ enrols smallest farm rs rs₁ rs₂ room room₁ room₂ side side₁ side₂ lo
       list = entered .list ∙ ap (λ xs. enter-all xs ls) (cleared .list);
       same-room = entered .same-room ∙ cleared .same-room;
       same-side = entered .same-side ∙ cleared .same-side;
-      same-loans = entered .same-loans ∙ cleared .same-loans
+      same-loans = entered .same-loans ∙ cleared .same-loans;
     }

@@ -119,7 +119,11 @@ impl Ledger {
     }
 
     // Accounts on a line get its values, new ones join, and other records keep no percentage.
-    pub(crate) fn enrol<B: AccountBook>(&mut self, book: &mut B, lines: &[Line]) -> Result<Done, Refusal>
+    pub(crate) fn enrol<B: AccountBook>(
+        &mut self,
+        book: &mut B,
+        lines: &[Line],
+    ) -> Result<Done, Refusal>
         ensures kept { λ r. ⌜ (sound (now (book .entry)) → Kept (sound (now (book .exit))) (room (now (book .exit))) (room (now (book .entry))) (side (now (book .exit))) (side (now (book .entry))) (loans (now (book .exit))) (loans (now (book .entry)))) ⌝ }
         ensures steps { λ r. ⌜ (sound (now (book .entry)) → outcome (now (self .exit)) (room (now (book .exit))) (records (now (book .exit))) r ≡ enrol (view (now (self .entry)) (room (now (book .entry))) (records (now (book .entry)))) (now (lines .entry))) ⌝ }
     {

@@ -68,7 +68,11 @@ pub(crate) fn gain_shares<B: AccountBook>(book: &mut B, units: u64)
 
 impl Ledger {
     // Opens the next period with a reading: each satellite gains its share, and the host's bank the rest.
-    pub(crate) fn reading<B: AccountBook>(&mut self, book: &mut B, units: u64) -> Result<Done, Refusal>
+    pub(crate) fn reading<B: AccountBook>(
+        &mut self,
+        book: &mut B,
+        units: u64,
+    ) -> Result<Done, Refusal>
         ensures kept { λ r. ⌜ (sound (now (book .entry)) → Kept (sound (now (book .exit))) (room (now (book .exit))) (room (now (book .entry))) (side (now (book .exit))) (side (now (book .entry))) (loans (now (book .exit))) (loans (now (book .entry)))) ⌝ }
         ensures steps { λ r. ⌜ (sound (now (book .entry)) → outcome (now (self .exit)) (room (now (book .exit))) (records (now (book .exit))) r ≡ reading (view (now (self .entry)) (room (now (book .entry))) (records (now (book .entry)))) units) ⌝ }
     {
@@ -83,7 +87,10 @@ impl Ledger {
         }
         let shared = judge_shares(book, units)?;
         gain_shares(book, units);
-        self.phase = Phase::InPeriod { applied: 0, fees: 0 };
+        self.phase = Phase::InPeriod {
+            applied: 0,
+            fees: 0,
+        };
         self.bank += units - shared;
         self.read += units;
         Ok(Done::Opened {

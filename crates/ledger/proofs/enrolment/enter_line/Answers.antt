@@ -18,5 +18,5 @@ returns-in-None g c s k fits =
       list = h .list ∙ cond-true (c .add .result) _ rs taken ∙ sym (ap (λ o. enter o rs l) (missing (l .account) 0 rs none));
       same-room = h .same-room;
       same-side = h .same-side;
-      same-loans = h .same-loans
+      same-loans = h .same-loans;
     }

@@ -23,14 +23,17 @@ loop-line-again g c s k fits =
     let now-fits : length rs + new-accounts rs (l ∷ left) ≤ b .room (c .loop-line .book) = omega (arith, h .2, at-drop-more (new-accounts rs) ls i zero-line taken) in
     let one : length rs + joins rs l ≤ b .room (c .loop-line .book) = omega arith in
     let e = c .enter-line .ensures (h .0 .stays) (every-at ls i taken k) one in
-    let o = record-of (l .account) rs in
-    (record {
-       stays = e .stays;
-       list = refl;
-       same-room = e .same-room ∙ h .0 .same-room;
-       same-side = e .same-side ∙ h .0 .same-side;
-       same-loans = e .same-loans ∙ h .0 .same-loans
-     }, ap (λ xs. enter-all xs left) (e .list) ∙ sym (at-drop-more (enter-all rs) ls i zero-line taken) ∙ h .1, subst (λ xs. length xs + new-accounts xs left ≤ b .room (c .enter-line .last .book)) (sym (e .list)) (omega (arith, e .same-room, enter-fits rs l left (b .room (c .loop-line .book)) o refl now-fits)))
+    let o = record-of (l .account) rs in (
+      record {
+        stays = e .stays;
+        list = refl;
+        same-room = e .same-room ∙ h .0 .same-room;
+        same-side = e .same-side ∙ h .0 .same-side;
+        same-loans = e .same-loans ∙ h .0 .same-loans;
+      },
+      ap (λ xs. enter-all xs left) (e .list) ∙ sym (at-drop-more (enter-all rs) ls i zero-line taken) ∙ h .1,
+      subst (λ xs. length xs + new-accounts xs left ≤ b .room (c .enter-line .last .book)) (sym (e .list)) (omega (arith, e .same-room, enter-fits rs l left (b .room (c .loop-line .book)) o refl now-fits)),
+    )
 
 pub returns : need.returns
 returns g c s k fits =
@@ -41,5 +44,5 @@ returns g c s k fits =
       list = sym (at-drop-all (enter-all (b .records (c .loop-line .book))) (c .args .lines .now) (c .loop-line .line-index) (c .loop-line-test .left)) ∙ h .1;
       same-room = h .0 .same-room;
       same-side = h .0 .same-side;
-      same-loans = h .0 .same-loans
+      same-loans = h .0 .same-loans;
     }

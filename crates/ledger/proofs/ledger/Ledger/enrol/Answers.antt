@@ -18,12 +18,12 @@ returns g c =
     let left = λ (s : b .sound (c .args .book .now)). enrols (l .smallest) (l .farm) rs _ _ room _ _ _ _ _ _ _ _ ls (c .in-Continue-new .new) (b .proper (c .args .book .now) s .fits) (judged s) (c .clear-percentages .ensures s) (c .enter-lines .ensures) in
     record {
       kept = λ s.
-        let e = left s in
-        record { stays = e .stays; same-room = e .same-room; same-side = e .same-side; same-loans = e .same-loans };
+          let e = left s in
+          record { stays = e .stays; same-room = e .same-room; same-side = e .same-side; same-loans = e .same-loans };
       steps = λ s.
-        let e = left s in
-        let answer = Ok (Enrolled (c .in-Continue-new .new)) in
-        ap (λ x. outcome l x (b .records (c .enter-lines .last .book)) answer) (e .same-room)
-        ∙ ap (λ xs. outcome l room xs answer) (e .list)
-        ∙ ap (enrol-judged (view l room rs) ls) (judged s)
+          let e = left s in
+          let answer = Ok (Enrolled (c .in-Continue-new .new)) in
+          ap (λ x. outcome l x (b .records (c .enter-lines .last .book)) answer) (e .same-room)
+          ∙ ap (λ xs. outcome l room xs answer) (e .list)
+          ∙ ap (enrol-judged (view l room rs) ls) (judged s);
     }
