@@ -1,0 +1,64 @@
+-- The smallest number of units worth an amount: it is within the units held, and it is the only one.
+use Prim.Native.Nat.{ℕ, zero, suc, min, _≤_, _<_}
+use native.Mathlib.Omega.{arith}
+use native.Mathlib.Nat.{min-le-right}
+use lib.Dec.{leb}
+use mathlib.Core.Bool.{true, cond}
+use mathlib.Core.Path.{_≡_, sym, _∙_, refl}
+use mathlib.Core.Logic.{⊎-elim}
+use Rattle.std.proofs.shelf.Tests.{leb-true, leb-false, cond-both, cond-true, cases-lt, and-parts}
+use Rattle.crediting.specs.Credits.{Credited, Lawful, The-credit, applied-credit, smallest, units-used}
+use Rattle.crediting.specs.Ranges.{has-worth, in-ranges, is-class}
+
+-- never more than there are
+pub smallest-within : (W : ℕ → ℕ) (c u : ℕ) → smallest W c u ≤ u
+unfolding smallest
+smallest-within W c zero = omega arith
+smallest-within W c (suc n) =
+    cond-both (leb c (W n)) (smallest W c n) (suc n) (λ x. x ≤ suc n) (λ _. omega (arith, smallest-within W c n)) (λ _. omega arith)
+
+-- the units used are at most the units held
+pub used-within : (W : ℕ → ℕ → ℕ) (k u b : ℕ) → units-used W k u b ≤ u
+used-within W k u b =
+    cond-both (in-ranges k u b) (smallest (W k) (min b (W k u)) u) 0 (λ x. x ≤ u) (λ _. smallest-within (W k) _ u) (λ _. omega arith)
+
+-- where n units are worth too little, and w of at most n + 1 are worth enough, w is n + 1
+last-is : (W : ℕ → ℕ) (c n w : ℕ) → (w ≤ n → W w ≤ W n) → w ≤ suc n → c ≤ W w → W n < c → suc n ≡ w
+last-is W c n w rises within enough short =
+    ⊎-elim (λ (h : n < w). omega arith) (λ (h : w ≤ n). omega (arith, rises h)) (cases-lt n w)
+
+-- a number of units that is worth c, where no smaller is, is this one
+pub smallest-is : (W : ℕ → ℕ) (c u w : ℕ) → ((i j : ℕ) → i ≤ j → j ≤ u → W i ≤ W j) → w ≤ u → c ≤ W w → ((v : ℕ) → c ≤ W v → w ≤ v) → smallest W c u ≡ w
+unfolding smallest
+smallest-is W c zero w rises within enough fewest = omega arith
+smallest-is W c (suc n) w rises within enough fewest =
+    cond-both (leb c (W n)) (smallest W c n) (suc n) (λ x. x ≡ w)
+    (λ e. smallest-is W c n w (λ i j a b. rises i j a (omega arith)) (fewest n (leb-true c (W n) e)) enough fewest)
+    (λ e. last-is W c n w (λ h. rises w n h (omega arith)) within enough (leb-false c (W n) e))
+
+-- two answers to one bill are equal
+pub one-credit : (W : ℕ → ℕ) (u b c w d v : ℕ) → Credited W u b c w → Credited W u b d v → (c ≡ d) × (w ≡ v)
+one-credit W u b c w d v p q =
+    let same : c ≡ d = p .lesser ∙ sym (q .lesser) in
+    (same, omega (arith, p .fewest v (omega (arith, q .enough)), q .fewest w (omega (arith, p .enough))))
+
+-- the units of an account in range
+held : (k u b : ℕ) → in-ranges k u b ≡ true → u ≤ 1_000_000_000_000
+held k u b ok = leb-true u 1_000_000_000_000 (and-parts (is-class k) _ (and-parts (has-worth k u) _ ok .0) .1)
+
+-- a credit in range that meets the rule is the only one, and its numbers are those of the answer
+pub record Answer (W : ℕ → ℕ → ℕ) (k u b c w : ℕ) : Type 0 where
+  pub applied : c ≡ applied-credit W k u b
+  pub used : w ≡ units-used W k u b
+  pub meaning : The-credit (W k) u b c w
+
+pub answers : (W : ℕ → ℕ → ℕ) (k u b c w : ℕ) → Lawful (W k) → in-ranges k u b ≡ true → Credited (W k) u b c w → Answer W k u b c w
+answers W k u b c w law ok p =
+    let top : u ≤ 1_000_000_000_000 = held k u b ok in
+    let worth : c ≤ W k u = omega (arith, p .lesser, min-le-right b (W k u)) in
+    let is : smallest (W k) c u ≡ w = smallest-is (W k) c u w (λ i j a z. law .rises i j a (omega arith)) (p .fewest u worth) (p .enough) (p .fewest) in
+    record {
+      applied = p .lesser ∙ sym (cond-true _ _ _ ok);
+      used = sym (cond-true _ _ _ ok ∙ rw (← p .lesser) is);
+      meaning = (p, λ d v q. one-credit (W k) u b d v c w q p);
+    }

@@ -1,0 +1,3 @@
+pub mod Fewest
+mod Ceilings
+mod Leading

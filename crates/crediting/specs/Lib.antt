@@ -1,0 +1,4 @@
+pub mod Ranges
+pub mod Credits
+pub mod Worths
+pub mod Refusals
