@@ -1,13 +1,13 @@
 -- The smallest number of units worth an amount: it is within the units held, and it is the only one.
 use Prim.Native.Nat.{ℕ, zero, suc, min, _≤_, _<_}
 use native.Mathlib.Omega.{arith}
-use native.Mathlib.Nat.{min-le-right}
+use native.Mathlib.Nat.{min-le-left, min-le-right}
 use lib.Dec.{leb}
-use mathlib.Core.Bool.{true, cond}
+use mathlib.Core.Bool.{true, false, cond}
 use mathlib.Core.Path.{_≡_, sym, _∙_, refl}
 use mathlib.Core.Logic.{⊎-elim}
-use Rattle.std.proofs.shelf.Tests.{leb-true, leb-false, cond-both, cond-true, cases-lt, and-parts}
-use Rattle.crediting.specs.Credits.{Credited, Lawful, The-credit, applied-credit, smallest, units-used}
+use Rattle.std.proofs.shelf.Tests.{leb-true, leb-false, and-parts, both-ways, cases-lt, cond-both, cond-false, cond-true}
+use Rattle.crediting.specs.Credits.{Credited, Lawful, The-credit, Within, applied-credit, smallest, units-used}
 use Rattle.crediting.specs.Ranges.{has-worth, in-ranges, is-class}
 
 -- never more than there are
@@ -19,8 +19,15 @@ smallest-within W c (suc n) =
 
 -- the units used are at most the units held
 pub used-within : (W : ℕ → ℕ → ℕ) (k u b : ℕ) → units-used W k u b ≤ u
+unfolding units-used
 used-within W k u b =
     cond-both (in-ranges k u b) (smallest (W k) (min b (W k u)) u) 0 (λ x. x ≤ u) (λ _. smallest-within (W k) _ u) (λ _. omega arith)
+
+-- the applied credit is at most the bill
+pub applied-within : (W : ℕ → ℕ → ℕ) (k u b : ℕ) → applied-credit W k u b ≤ b
+unfolding applied-credit
+applied-within W k u b =
+    cond-both (in-ranges k u b) (min b (W k u)) 0 (λ x. x ≤ b) (λ _. min-le-left b (W k u)) (λ _. omega arith)
 
 -- where n units are worth too little, and w of at most n + 1 are worth enough, w is n + 1
 last-is : (W : ℕ → ℕ) (c n w : ℕ) → (w ≤ n → W w ≤ W n) → w ≤ suc n → c ≤ W w → W n < c → suc n ≡ w
@@ -46,13 +53,16 @@ one-credit W u b c w d v p q =
 held : (k u b : ℕ) → in-ranges k u b ≡ true → u ≤ 1_000_000_000_000
 held k u b ok = leb-true u 1_000_000_000_000 (and-parts (is-class k) _ (and-parts (has-worth k u) _ ok .0) .1)
 
--- a credit in range that meets the rule is the only one, and its numbers are those of the answer
+-- what a method answers, as its contract has it
 pub record Answer (W : ℕ → ℕ → ℕ) (k u b c w : ℕ) : Type 0 where
   pub applied : c ≡ applied-credit W k u b
   pub used : w ≡ units-used W k u b
-  pub meaning : The-credit (W k) u b c w
+  pub within : Within u b c w
+  pub meaning : in-ranges k u b ≡ true → The-credit (W k) u b c w
 
+-- a credit in range that meets the rule is the only one, and its numbers are those of the answer
 pub answers : (W : ℕ → ℕ → ℕ) (k u b c w : ℕ) → Lawful (W k) → in-ranges k u b ≡ true → Credited (W k) u b c w → Answer W k u b c w
+unfolding applied-credit units-used
 answers W k u b c w law ok p =
     let top : u ≤ 1_000_000_000_000 = held k u b ok in
     let worth : c ≤ W k u = omega (arith, p .lesser, min-le-right b (W k u)) in
@@ -60,5 +70,17 @@ answers W k u b c w law ok p =
     record {
       applied = p .lesser ∙ sym (cond-true _ _ _ ok);
       used = sym (cond-true _ _ _ ok ∙ rw (← p .lesser) is);
-      meaning = (p, λ d v q. one-credit (W k) u b d v c w q p);
+      within = record { units = p .fewest u worth; cents = omega (arith, p .lesser, min-le-left b (W k u)) };
+      meaning = λ _. (p, λ d v q. one-credit (W k) u b d v c w q p);
+    }
+
+-- outside the ranges both numbers are 0
+pub nothing : (W : ℕ → ℕ → ℕ) (k u b : ℕ) → in-ranges k u b ≡ false → Answer W k u b 0 0
+unfolding applied-credit units-used
+nothing W k u b out =
+    record {
+      applied = sym (cond-false _ _ _ out);
+      used = sym (cond-false _ _ _ out);
+      within = record { units = omega arith; cents = omega arith };
+      meaning = λ ok. absurd (both-ways _ out ok);
     }
