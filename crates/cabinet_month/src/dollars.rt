@@ -1,12 +1,11 @@
 // Cents as dollars with two decimals.
-ghost use Prim.Native.Nat.{_+_, _/_, _%_};
 ghost use Rattle.cabinet_month.specs.Shown.{dollars};
 ghost use Rattle.std.specs.declared.option.Option.the-variants.{Some};
 use std::fmt;
 
 // An amount of cents, written as dollars: `0.05` for 5 cents.
 #[derive(Clone, Copy, PartialEq, Eq, Debug)]
-pub struct Dollars(pub u64);
+pub struct Dollars(pub u128);
 
 pub impl fmt::Display for Dollars as DollarsDisplay {
     ghost shown = { λ d. Some (dollars (d .0)) };
