@@ -4,10 +4,10 @@ use native.Mathlib.Omega.{arith}
 use native.Mathlib.Nat.{min-le-left, min-le-right}
 use lib.Dec.{leb}
 use mathlib.Core.Bool.{true, false, cond}
-use mathlib.Core.Path.{_≡_, sym, _∙_, refl}
+use mathlib.Core.Path.{_≡_, sym, _∙_, ap}
 use mathlib.Core.Logic.{⊎-elim}
 use Rattle.std.proofs.shelf.Tests.{leb-true, leb-false, and-parts, both-ways, cases-lt, cond-both, cond-false, cond-true}
-use Rattle.crediting.specs.Credits.{Credited, Lawful, The-credit, Within, applied-credit, smallest, units-used}
+use Rattle.crediting.specs.Credits.{Credited, Lawful, The-credit, Within, applied-credit, smallest, told-worth, units-used}
 use Rattle.crediting.specs.Ranges.{has-worth, in-ranges, is-class}
 
 -- never more than there are
@@ -53,34 +53,49 @@ one-credit W u b c w d v p q =
 held : (k u b : ℕ) → in-ranges k u b ≡ true → u ≤ 1_000_000_000_000
 held k u b ok = leb-true u 1_000_000_000_000 (and-parts (is-class k) _ (and-parts (has-worth k u) _ ok .0) .1)
 
--- what a method answers, as its contract has it
-pub record Answer (W : ℕ → ℕ → ℕ) (k u b c w : ℕ) : Type 0 where
-  pub applied : c ≡ applied-credit W k u b
-  pub used : w ≡ units-used W k u b
+-- and its bill
+pub billed : (k u b : ℕ) → in-ranges k u b ≡ true → b ≤ 1_000_000_000
+billed k u b ok = leb-true b 1_000_000_000 (and-parts (has-worth k u) _ ok .1)
+
+-- the applied credit inside the ranges and outside
+pub applied-inside : (W : ℕ → ℕ → ℕ) (k u b : ℕ) → in-ranges k u b ≡ true → applied-credit W k u b ≡ min b (W k u)
+unfolding applied-credit
+applied-inside W k u b ok = cond-true (in-ranges k u b) (min b (W k u)) 0 ok
+
+pub applied-outside : (W : ℕ → ℕ → ℕ) (k u b : ℕ) → in-ranges k u b ≡ false → applied-credit W k u b ≡ 0
+unfolding applied-credit
+applied-outside W k u b out = cond-false (in-ranges k u b) (min b (W k u)) 0 out
+
+-- the lesser of the bill and the worth that is told
+pub applied-told : (W : ℕ → ℕ → ℕ) (k u b x : ℕ) → in-ranges k u b ≡ true → x ≡ told-worth W k u → min b x ≡ applied-credit W k u b
+applied-told W k u b x ok tells =
+    ap (λ v. min b v) (tells ∙ cond-true (has-worth k u) (W k u) 0 (and-parts (has-worth k u) _ ok .0)) ∙ sym (applied-inside W k u b ok)
+
+-- what is said of the units w that a credit of c cents uses
+pub record Uses (W : ℕ → ℕ → ℕ) (k u b c w : ℕ) : Type 0 where
+  pub value : w ≡ units-used W k u b
   pub within : Within u b c w
   pub meaning : in-ranges k u b ≡ true → The-credit (W k) u b c w
 
--- a credit in range that meets the rule is the only one, and its numbers are those of the answer
-pub answers : (W : ℕ → ℕ → ℕ) (k u b c w : ℕ) → Lawful (W k) → in-ranges k u b ≡ true → Credited (W k) u b c w → Answer W k u b c w
-unfolding applied-credit units-used
-answers W k u b c w law ok p =
+-- inside the ranges, of units that meet the rule
+pub uses-inside : (W : ℕ → ℕ → ℕ) (k u b c w : ℕ) → Lawful (W k) → in-ranges k u b ≡ true → Credited (W k) u b c w → Uses W k u b c w
+unfolding units-used
+uses-inside W k u b c w law ok p =
     let top : u ≤ 1_000_000_000_000 = held k u b ok in
     let worth : c ≤ W k u = omega (arith, p .lesser, min-le-right b (W k u)) in
     let is : smallest (W k) c u ≡ w = smallest-is (W k) c u w (λ i j a z. law .rises i j a (omega arith)) (p .fewest u worth) (p .enough) (p .fewest) in
     record {
-      applied = p .lesser ∙ sym (cond-true _ _ _ ok);
-      used = sym (cond-true _ _ _ ok ∙ rw (← p .lesser) is);
+      value = sym (cond-true _ _ _ ok ∙ rw (← p .lesser) is);
       within = record { units = p .fewest u worth; cents = omega (arith, p .lesser, min-le-left b (W k u)) };
       meaning = λ _. (p, λ d v q. one-credit (W k) u b d v c w q p);
     }
 
--- outside the ranges both numbers are 0
-pub nothing : (W : ℕ → ℕ → ℕ) (k u b : ℕ) → in-ranges k u b ≡ false → Answer W k u b 0 0
-unfolding applied-credit units-used
-nothing W k u b out =
+-- and outside, of none
+pub uses-outside : (W : ℕ → ℕ → ℕ) (k u b c : ℕ) → c ≡ applied-credit W k u b → in-ranges k u b ≡ false → Uses W k u b c 0
+unfolding units-used
+uses-outside W k u b c is out =
     record {
-      applied = sym (cond-false _ _ _ out);
-      used = sym (cond-false _ _ _ out);
-      within = record { units = omega arith; cents = omega arith };
+      value = sym (cond-false _ _ _ out);
+      within = record { units = omega arith; cents = omega (arith, is, applied-within W k u b) };
       meaning = λ ok. absurd (both-ways _ out ok);
     }
