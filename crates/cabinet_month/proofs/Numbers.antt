@@ -3,33 +3,32 @@ use Prim.Native.Nat.{ℕ, _+_, _-_, _*_, _<_, _≤_}
 use native.Mathlib.Omega.{arith}
 use lib.Dec.{leb}
 use lib.ListN.{length, getD, drop}
-use mathlib.Core.Bool.{Bool, true, false, cond, _&&_}
+use mathlib.Core.Bool.{true, false, cond}
 use mathlib.Core.List.{List, [], _∷_}
-use mathlib.Core.Path.{_≡_, refl, sym, _∙_, ap}
+use mathlib.Core.Path.{_≡_, refl}
 use Rattle.std.proofs.shelf.Lists.{drop-all, drop-more}
-use Rattle.std.proofs.shelf.Tests.{and-right, cond-both, cond-false, cond-true, lt-leb}
-use Rattle.std.specs.declared.option.Option.{Option}
+use Rattle.std.proofs.shelf.Tests.{cond-both, cond-false, cond-true, le-leb, lt-leb}
 use Rattle.std.specs.declared.option.Option.the-variants.{Some, None}
-use Rattle.cabinet_month.specs.Fields.{gathered, is-digit, kept, number-from}
+use Rattle.cabinet_month.specs.Fields.{at-most, gathered, is-digit, up-to}
 
 -- what follows a number above the limit does not bring it back
-pub over : (lo hi n : ℕ) (bs : List ℕ) → hi < n → kept lo hi (gathered n bs) ≡ None
+pub over : (hi n : ℕ) (bs : List ℕ) → hi < n → at-most hi (gathered n bs) ≡ None
 unfolding gathered
-over lo hi n [] h = cond-false (leb lo n && leb n hi) (Some n) None (and-right (leb lo n) (leb n hi) (lt-leb n hi h))
-over lo hi n (b ∷ bs) h =
-    cond-both (is-digit b) (gathered (n * 10 + (b - 48)) bs) None (λ o. kept lo hi o ≡ None) (λ _. over lo hi (n * 10 + (b - 48)) bs (omega arith)) (λ _. refl)
+over hi n [] h = cond-false (leb n hi) (Some n) None (lt-leb n hi h)
+over hi n (b ∷ bs) h =
+    cond-both (is-digit b) (gathered (n * 10 + (b - 48)) bs) None (λ o. at-most hi o ≡ None) (λ _. over hi (n * 10 + (b - 48)) bs (omega arith)) (λ _. refl)
 
 -- a field with a byte in it
-pub some : (lo hi : ℕ) (bs : List ℕ) → 0 < length bs → kept lo hi (gathered 0 bs) ≡ number-from lo hi bs
-unfolding number-from
-some lo hi [] h = absurd (omega arith)
-some lo hi (b ∷ bs) h = refl
+pub some : (hi : ℕ) (bs : List ℕ) → 0 < length bs → at-most hi (gathered 0 bs) ≡ up-to hi bs
+unfolding up-to
+some hi [] h = absurd (omega arith)
+some hi (b ∷ bs) h = refl
 
 -- a field with none
-pub none : (lo hi : ℕ) (bs : List ℕ) → length bs ≡ 0 → None ≡ number-from lo hi bs
-unfolding number-from
-none lo hi [] h = refl
-none lo hi (b ∷ bs) h = absurd (omega arith)
+pub none : (hi : ℕ) (bs : List ℕ) → length bs ≡ 0 → None ≡ up-to hi bs
+unfolding up-to
+none hi [] h = refl
+none hi (b ∷ bs) h = absurd (omega arith)
 
 -- the next byte, and the end
 pub digit-next : (n i : ℕ) (bs : List ℕ) → i < length bs → is-digit (getD bs i 0) ≡ true → gathered n (drop i bs) ≡ gathered (n * 10 + (getD bs i 0 - 48)) (drop (i + 1) bs)
@@ -40,6 +39,6 @@ pub other-next : (n i : ℕ) (bs : List ℕ) → i < length bs → is-digit (get
 unfolding gathered
 other-next n i bs h d = rw (drop-more bs i 0 h) (cond-false _ _ _ d)
 
-pub ended : (lo hi n i : ℕ) (bs : List ℕ) → length bs ≤ i → kept lo hi (gathered n (drop i bs)) ≡ cond (leb lo n && leb n hi) (Some n) None
+pub ended : (hi n i : ℕ) (bs : List ℕ) → length bs ≤ i → n ≤ hi → at-most hi (gathered n (drop i bs)) ≡ Some n
 unfolding gathered
-ended lo hi n i bs h = rw (drop-all i bs h) refl
+ended hi n i bs h small = rw (drop-all i bs h) (cond-true (leb n hi) (Some n) None (le-leb n hi small))

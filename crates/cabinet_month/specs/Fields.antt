@@ -1,23 +1,23 @@
 -- The fields of a line, and the numbers that they write.
-use Prim.Native.Nat.{ℕ, _+_, _-_, _*_}
+use Prim.Native.Nat.{ℕ, min, _+_, _-_, _*_}
 use lib.Dec.{eqb, leb}
-use lib.ListN.{take, drop}
+use lib.ListN.{length, take, drop}
 use mathlib.Core.Bool.{Bool, cond, not, _&&_}
 use mathlib.Core.List.{List, [], _∷_}
 use Rattle.std.specs.declared.option.Option.{Option}
 use Rattle.std.specs.declared.option.Option.the-variants.{Some, None}
 use Rattle.std.specs.shelf.Lists.{leading}
 
--- A field goes up to the first space,
+-- A field goes up to the first space, or to the line's end.
 abbrev pub no-space : ℕ → Bool
 no-space b = not (eqb b 32)
 
-unfoldable pub first-field : List ℕ → List ℕ
+abbrev pub first-field : List ℕ → List ℕ
 first-field bs = take (leading no-space bs) bs
 
--- and what follows that space is cut again.
-unfoldable pub after-field : List ℕ → List ℕ
-after-field bs = drop (leading no-space bs + 1) bs
+-- The rest of the line stands behind that space.
+abbrev pub after-field : List ℕ → List ℕ
+after-field bs = drop (min (length bs) (leading no-space bs + 1)) bs
 
 abbrev pub is-digit : ℕ → Bool
 is-digit b = leb 48 b && leb b 57
@@ -28,11 +28,18 @@ gathered n [] = Some n
 gathered n (b ∷ bs) = cond (is-digit b) (gathered (n * 10 + (b - 48)) bs) None
 
 -- A number in its range, or nothing.
-abbrev pub kept : ℕ → ℕ → Option ℕ → Option ℕ
-kept lo hi None = None
-kept lo hi (Some n) = cond (leb lo n && leb n hi) (Some n) None
+abbrev pub at-most : ℕ → Option ℕ → Option ℕ
+at-most hi None = None
+at-most hi (Some n) = cond (leb n hi) (Some n) None
 
--- The number that a field writes, which has a digit at least.
-unfoldable pub number-from : ℕ → ℕ → List ℕ → Option ℕ
-number-from lo hi [] = None
-number-from lo hi (b ∷ bs) = kept lo hi (gathered 0 (b ∷ bs))
+abbrev pub at-least : ℕ → Option ℕ → Option ℕ
+at-least lo None = None
+at-least lo (Some n) = cond (leb lo n) (Some n) None
+
+-- The number that a field writes, which has a digit at least and nothing else.
+unfoldable pub up-to : ℕ → List ℕ → Option ℕ
+up-to hi [] = None
+up-to hi (b ∷ bs) = at-most hi (gathered 0 (b ∷ bs))
+
+abbrev pub number-from : ℕ → ℕ → List ℕ → Option ℕ
+number-from lo hi bs = at-least lo (up-to hi bs)
