@@ -6,6 +6,13 @@ use mathlib.Core.Bool.{Bool, _&&_}
 use mathlib.Core.List.{List}
 use mathlib.Core.Path.{_≡_}
 
+-- The mark of a method's unit is a letter: `C` for cents, `K` for kilowatt-hours.
+abbrev pub cents-mark : ℕ
+cents-mark = 67
+
+abbrev pub kilowatt-hours-mark : ℕ
+kilowatt-hours-mark = 75
+
 -- Value Stack: a unit is a cent in every class.
 abbrev pub cents : ℕ → ℕ → ℕ
 cents k u = u

@@ -1,7 +1,7 @@
 // Value Stack: a unit is a cent.
 ghost use Rattle.crediting.specs.Credits.{The-credit, Within, applied-credit, units-used};
 ghost use Rattle.crediting.specs.Ranges.{in-ranges};
-ghost use Rattle.crediting.specs.Worths.{cents};
+ghost use Rattle.crediting.specs.Worths.{cents, cents-mark};
 ghost use mathlib.Core.Bool.{true};
 ghost use mathlib.Core.Path.{_≡_};
 use super::credit::Credit;
@@ -15,7 +15,7 @@ pub struct ValueStack;
 pub impl CreditMethod for ValueStack as ValueStackCredit {
     const MARK: u8 = b'C';
 
-    ghost letter = { 67 };
+    ghost letter = { cents-mark };
 
     ghost worth = { λ _. cents };
 

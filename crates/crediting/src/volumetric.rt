@@ -3,7 +3,7 @@ ghost use Prim.Native.Nat.{ℕ, _≤_, _<_};
 ghost use Rattle.crediting.specs.Credits.{The-credit, Within, applied-credit, units-used};
 ghost use Rattle.crediting.specs.Ranges.{in-ranges, is-class};
 ghost use Rattle.crediting.specs.Refusals.{Told, judged};
-ghost use Rattle.crediting.specs.Worths.{Fair, by-rates, rate-of};
+ghost use Rattle.crediting.specs.Worths.{Fair, by-rates, kilowatt-hours-mark, rate-of};
 ghost use Rattle.std.specs.Results.{isOk};
 ghost use Rattle.std.specs.declared.option.Option.the-variants.{None, Some};
 ghost use lib.ListN.{replicate};
@@ -58,7 +58,7 @@ impl Volumetric {
 pub impl CreditMethod for Volumetric as VolumetricCredit {
     const MARK: u8 = b'K';
 
-    ghost letter = { 75 };
+    ghost letter = { kilowatt-hours-mark };
 
     ghost worth = { λ s. by-rates (s .rates) };
 
