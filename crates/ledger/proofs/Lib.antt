@@ -8,3 +8,4 @@ pub mod Sharing
 pub mod Replacing
 pub mod Entering
 pub mod Requests
+pub mod Posting
