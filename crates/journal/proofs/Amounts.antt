@@ -1,6 +1,6 @@
 -- What a bill comes to: its credit is by the rule, and net credit and fee are the applied credit.
 use Prim.Native.Nat.{ℕ, zero, suc, min, _+_, _≤_, _<_}
-use native.Mathlib.Nat.{min-le-left, min-le-right}
+use native.Mathlib.Nat.{min-le-right}
 use native.Mathlib.Omega.{arith}
 use lib.Dec.{leb}
 use mathlib.Core.Bool.{true}
@@ -41,6 +41,7 @@ in-range-all k u b class held bill =
 
 -- by a lawful worth, what is answered meets the rule
 pub credited : (W : ℕ → ℕ → ℕ) (k u b : ℕ) → Lawful (W k) → u ≤ 1_000_000_000_000 → in-ranges k u b ≡ true → Credited (W k) u b (applied-credit W k u b) (units-used W k u b)
+unfolding applied-credit units-used
 credited W k u b law top ok =
     let c : ℕ = min b (W k u) in
     rw (cond-true (in-ranges k u b) c 0 ok, cond-true (in-ranges k u b) (smallest (W k) c u) 0 ok)
@@ -49,11 +50,6 @@ credited W k u b law top ok =
       enough = smallest-enough (W k) c u (min-le-right b (W k u));
       fewest = smallest-fewest (W k) c u (λ i j a z. law .rises i j a (omega arith));
     })
-
--- no applied credit passes its bill
-pub applied-within : (W : ℕ → ℕ → ℕ) (k u b : ℕ) → applied-credit W k u b ≤ b
-applied-within W k u b =
-    cond-both (in-ranges k u b) (min b (W k u)) 0 (λ x. x ≤ b) (λ _. min-le-left b (W k u)) (λ _. omega arith)
 
 -- net credit and fee are the applied credit
 pub net-and-fee : (kind : Kind) (savings c : ℕ) → savings ≤ 9800 → net-credit kind savings c + subscription-fee kind savings c ≡ c

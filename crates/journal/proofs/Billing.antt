@@ -31,7 +31,8 @@ use Rattle.journal.specs.Histories as history
 use Rattle.journal.specs.Histories.{Event, History, class-of, disbursed-to, given, of-account, percentage-of, shares-of, used-by}
 use Rattle.ledger.specs.Phases.{fees-in}
 use Rattle.journal.specs.Laws.{Bill-rule}
-use Rattle.journal.proofs.Amounts.{applied-within, counted-within, credited, in-range-all, net-and-fee}
+use Rattle.crediting.proofs.Fewest.{applied-within}
+use Rattle.journal.proofs.Amounts.{counted-within, credited, in-range-all, net-and-fee}
 use Rattle.ledger.proofs.Fees.{fee-covers}
 use Rattle.ledger.proofs.Found.{found-account, found-within, put-length, put-total}
 use Rattle.journal.proofs.Standing.{Kept, Stands, Ties, billed-in, bounds-at, keeps-declined}

@@ -35,10 +35,16 @@ module _ (worth : ℕ → ℕ → ℕ) (s : State) (applied fees account cents :
   leaves more room rs p done =
       record {
         state = record {
-          smallest = s .smallest; farm = s .farm; phase = InPeriod (applied + more) (fees + p .fee); closed = s .closed;
-          bank = s .bank; read = s .read; room = room; records = rs
+          smallest = s .smallest;
+          farm = s .farm;
+          phase = InPeriod (applied + more) (fees + p .fee);
+          closed = s .closed;
+          bank = s .bank;
+          read = s .read;
+          room = room;
+          records = rs;
         };
-        answer = Ok done
+        answer = Ok done;
       }
 
   -- the book replaced the account's record

@@ -17,11 +17,11 @@ returns-in-Continue-bill g c =
     let period : l .closed + 1 ≤ 1200 = omega (arith, l .periods, ap open-periods (a .is-0)) in
     record {
       kept = λ s.
-        let h = c .replace .ensures .after s in
-        record { stays = h .stays; same-room = h .same-room; same-side = h .same-side; same-loans = h .same-loans };
+          let h = c .replace .ensures .after s in
+          record { stays = h .stays; same-room = h .same-room; same-side = h .same-side; same-loans = h .same-loans };
       steps = λ s.
-        bill-posted (g .M·CreditMethod .worth (a .method)) v (a .applied) (a .fees) (a .account) (a .cents) (c .in-Continue-bill .bill) _ _ _ _ _ _ _ _ (c .in-Continue-bill .ensures tt .judged s) period (c .counted-credit .ensures) (c .replace .ensures .answer s) (c .replace .ensures .after s)
-        ∙ sym (ap₂ (at-phase (g .M·CreditMethod .worth) v) (a .is-0) (a .is-1))
+          bill-posted (g .M·CreditMethod .worth (a .method)) v (a .applied) (a .fees) (a .account) (a .cents) (c .in-Continue-bill .bill) _ _ _ _ _ _ _ _ (c .in-Continue-bill .ensures tt .judged s) period (c .counted-credit .ensures) (c .replace .ensures .answer s) (c .replace .ensures .after s)
+          ∙ sym (ap₂ (at-phase (g .M·CreditMethod .worth) v) (a .is-0) (a .is-1));
     }
 
 pub returns-in-Continue-bill-2 : need.returns-in-Continue-bill-2
@@ -34,9 +34,9 @@ returns-in-Continue-bill-2 g c =
     let replaces = c .replace-in-InPeriod-FinalBill .ensures in
     record {
       kept = λ s.
-        let h = replaces .after s in
-        record { stays = h .stays; same-room = h .same-room; same-side = h .same-side; same-loans = h .same-loans };
+          let h = replaces .after s in
+          record { stays = h .stays; same-room = h .same-room; same-side = h .same-side; same-loans = h .same-loans };
       steps = λ s.
-        final-posted (g .M·CreditMethod .worth (a .method)) v (a .applied) (a .fees) (a .account) (a .cents) (c .in-Continue-bill-2 .bill) _ _ _ _ _ _ _ _ (c .in-Continue-bill-2 .ensures tt .judged s) period (c .counted-credit-in-InPeriod-FinalBill .ensures) (replaces .answer s) (replaces .after s)
-        ∙ sym (ap₂ (at-phase (g .M·CreditMethod .worth) v) (a .is-0) (a .is-1))
+          final-posted (g .M·CreditMethod .worth (a .method)) v (a .applied) (a .fees) (a .account) (a .cents) (c .in-Continue-bill-2 .bill) _ _ _ _ _ _ _ _ (c .in-Continue-bill-2 .ensures tt .judged s) period (c .counted-credit-in-InPeriod-FinalBill .ensures) (replaces .answer s) (replaces .after s)
+          ∙ sym (ap₂ (at-phase (g .M·CreditMethod .worth) v) (a .is-0) (a .is-1));
     }
