@@ -24,9 +24,11 @@ unfolding all-digits
 not-digit bs at zero i l e = absurd (omega arith)
 not-digit bs at (suc w) i l e =
     let here = is-digit (getD bs (at + w) 0) in
-    elim (cases-order i w) [ inl same ↦ and-right (all-digits bs at w) here (rw (← same) e)
-    | inr (inl less) ↦ and-left (all-digits bs at w) here (not-digit bs at w i less e)
-    | inr (inr more) ↦ absurd (omega arith) ]
+    elim (cases-order i w) [
+      | inl same ↦ and-right (all-digits bs at w) here (rw (← same) e)
+      | inr (inl less) ↦ and-left (all-digits bs at w) here (not-digit bs at w i less e)
+      | inr (inr more) ↦ absurd (omega arith)
+    ]
 
 pub digits-more : (bs : List ℕ) (at i : ℕ) → all-digits bs at i ≡ true → is-digit (getD bs (at + i) 0) ≡ true → all-digits bs at (i + 1) ≡ true
 unfolding all-digits

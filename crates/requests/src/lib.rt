@@ -2,3 +2,7 @@
 // and hands out a line's remark as a part of the file's own bytes. Nothing here allocates.
 pub mod fault;
 mod field;
+mod lines;
+mod pairs;
+pub mod reader;
+pub mod remark;

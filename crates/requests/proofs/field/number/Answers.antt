@@ -14,9 +14,10 @@ unfolding number all-digits
 loop-i-holds c = (refl, refl)
 
 pub returns-then-byte-lt48 : need.returns-then-byte-lt48
-returns-then-byte-lt48 c = record
-  { value = sym (cond-false _ _ _ (not-digit (c .args .line .now) (c .args .at) (c .args .width) (c .loop-i .i) (c .loop-i-test .taken) (digit-false _ (c .then-byte-lt48 .either))))
-  ; bound = tt }
+returns-then-byte-lt48 c = record {
+  value = sym (cond-false _ _ _ (not-digit (c .args .line .now) (c .args .at) (c .args .width) (c .loop-i .i) (c .loop-i-test .taken) (digit-false _ (c .then-byte-lt48 .either))));
+  bound = tt;
+}
 
 -- with one digit more the number still fits
 fits : (c : need.Else-byte-gt57) (d : _) → d ≤ 9 → c .loop-i .gathered * 10 + d < 2 ^ 64
