@@ -1,0 +1,3 @@
+mod Checks
+mod Packs
+mod Texts
