@@ -1,3 +1,6 @@
 mod Checks
+mod Fields
 mod Packs
+mod Places
 mod Texts
+mod Trips

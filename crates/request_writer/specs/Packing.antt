@@ -2,6 +2,7 @@
 use mathlib.Core.Path.{_≡_}
 use mathlib.Core.List.{List, [], _∷_, _++_, map}
 use mathlib.Core.Bool.{Bool, true, cond, _&&_, _||_}
+use mathlib.Core.Logic.{_⊎_}
 use Prim.Native.Nat.{ℕ, zero, suc, _+_, _*_, _/_, _%_, _^_, _<_}
 use lib.Dec.{eqb, leb, ltb}
 use lib.ListN.{length, getD}
@@ -98,13 +99,9 @@ abbrev pub sized : Result (List ℕ) WriteRefusal → Result ℕ WriteRefusal
 sized (Ok file) = Ok (length file)
 sized (Err fault) = Err fault
 
--- a refusal is that of the packing; memory is wanting only for lines that a file can hold
+-- a refusal is that of the packing, or memory is wanting for lines that a file can hold
 abbrev pub Refuses : List Item → WriteRefusal → Type 0
-Refuses es refusal.LineCount = packing es ≡ Err refusal.LineCount
-Refuses es (refusal.Number place) = packing es ≡ Err (refusal.Number place)
-Refuses es (refusal.Remark place) = packing es ≡ Err (refusal.Remark place)
-Refuses es refusal.FileLength = packing es ≡ Err refusal.FileLength
-Refuses es refusal.Memory = isOk (packing es) ≡ true
+Refuses es e = (packing es ≡ Err e) ⊎ ((e ≡ refusal.Memory) × (isOk (packing es) ≡ true))
 
 -- Reading a file back gives the lines, and at each place its remark.
 pub record ReadsBack (file : List ℕ) (es : List Item) : Type 0 where

@@ -1,3 +1,3 @@
-mod Judged
-mod Numerals
-mod Readings
+pub mod Judged
+pub mod Numerals
+pub mod Readings
