@@ -10,7 +10,8 @@ use std::test::*;
 
 // Three lines at 20, 52 and 93: one without a remark, one with, one with an empty one behind byte 30.
 // Two bytes between lines and one at the end belong to none.
-const FILE: &[u8] = b"\x03\x00\x14\x00\x00\x00\x1e\x00\x34\x00\x00\x00\x29\x00\x5d\x00\x00\x00\x1f\x0020010000001 010000 1000 02 S M??00000000007 100000 9800 16 L X north roof99999999999 999999 9999 99 S X !";
+const FILE: &[u8] =
+    b"\x03\x00\x14\x00\x00\x00\x1e\x00\x34\x00\x00\x00\x29\x00\x5d\x00\x00\x00\x1f\x0020010000001 010000 1000 02 S M??00000000007 100000 9800 16 L X north roof99999999999 999999 9999 99 S X !";
 
 const BLANK: Line = Line {
     account: 0,
@@ -122,7 +123,9 @@ fn lines_and_other_places() -> Result<(), Fail> {
     };
     let mut table = [BLANK; 5];
     check_eq(read(FILE, &mut table).ok(), Some(3))?;
-    for (line, expected) in table.iter().zip([first, second, third, BLANK, BLANK].iter()) {
+    for (line, expected) in table
+        .iter()
+        .zip([first, second, third, BLANK, BLANK].iter()) {
         check_eq(*line, *expected)?;
     }
     Ok(())
