@@ -1,5 +1,6 @@
 mod Checks
 mod Fields
+mod Holding
 mod Packs
 mod Places
 mod Texts

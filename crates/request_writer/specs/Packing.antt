@@ -107,3 +107,7 @@ Refuses es e = (packing es ≡ Err e) ⊎ ((e ≡ refusal.Memory) × (isOk (pack
 pub record ReadsBack (file : List ℕ) (es : List Item) : Type 0 where
   pub lines : meaning file ≡ Ok (map (λ e. e .0) es)
   pub remarks : (place : ℕ) (d : Item) → place < length es → mapped (λ found. found .0) (remark-at file place) ≡ Some (getD es place d .1)
+
+-- a refusal that is not for want of memory: no file reads as these lines with these remarks
+abbrev pub Unheld : List Item → WriteRefusal → Type 0
+Unheld es e = (e ≡ refusal.Memory → ⊥) → (file : List ℕ) → ReadsBack file es → ⊥

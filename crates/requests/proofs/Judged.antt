@@ -100,7 +100,7 @@ then-ok (Ok a) f b h = (a, refl, h)
 then-ok (Err e) f b h = absurd (no-fault b e h)
 
 -- the first line of several in form, and the others
-lines-split : (file : List ℕ) (a n : ℕ) (ls : List Line) → lines-from file a (suc n) ≡ Ok ls → (l : Line) × (rest : List Line) × (line-at file a ≡ Ok l) × (lines-from file (a + 1) n ≡ Ok rest) × (ls ≡ l ∷ rest)
+pub lines-split : (file : List ℕ) (a n : ℕ) (ls : List Line) → lines-from file a (suc n) ≡ Ok ls → (l : Line) × (rest : List Line) × (line-at file a ≡ Ok l) × (lines-from file (a + 1) n ≡ Ok rest) × (ls ≡ l ∷ rest)
 unfolding lines-from
 lines-split file a n ls h =
     let first = then-ok (line-at file a) _ ls h in

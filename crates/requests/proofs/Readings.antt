@@ -10,7 +10,7 @@ use lib.Dec.{eqb, leb, ltb}
 use Rattle.std.specs.Results.{isOk}
 use Rattle.std.specs.declared.result.Result.{Result}
 use Rattle.std.specs.declared.result.Result.the-variants.{Ok, Err}
-use Rattle.std.proofs.shelf.Tests.{cond-true, cond-false, cases-bool, or-parts, ltb-false, le-ltb}
+use Rattle.std.proofs.shelf.Tests.{cond-true, cond-false, cases-bool, or-parts, ltb-false, eqb-false, le-ltb}
 use Rattle.std.specs.declared.option.Option.the-variants.{Some, None}
 use Rattle.accounts.specs.declared.record.Line.{Line}
 use Rattle.requests.specs.declared.fault.LineFault.{LineFault}
@@ -33,24 +33,34 @@ pub counted-ok : {E : Type 0} (r : Result (List Line) E) (n : ℕ) → counted r
 counted-ok (Ok ls) n h = (ls, refl, cc)
 counted-ok (Err e) n h = absurd (no-fault n e h)
 
--- a line count that is in order
+-- a length and a line count that are in order
 pub record Head (file : List ℕ) (n : ℕ) : Type 0 where
-  pub within : 2 + 6 * n ≤ length file
+  pub limit : length file ≤ 65535
+  pub least : n ≡ 0 → ⊥
   pub most : n ≤ 1024
+  pub within : 2 + 6 * n ≤ length file
 
 pub count-ok : (file : List ℕ) (n : ℕ) → count file ≡ Ok n → Head file n
 unfolding count
 count-ok file n h =
     let m = little file 0 2 in
-    let past = cond-ok (ltb (length file) 2 || ltb 65535 (length file)) _ _ n h .1 in
-    let counts = cond-ok (eqb m 0 || (ltb 1024 m || ltb (length file) (2 + 6 * m))) _ _ n past in
+    let size = length file in
+    let past = cond-ok (ltb size 2 || ltb 65535 size) _ _ n h in
+    let counts = cond-ok (eqb m 0 || (ltb 1024 m || ltb size (2 + 6 * m))) _ _ n (past .1) in
     let same : m ≡ n = let e = counts .1 in cc in
-    let tests = or-parts (ltb 1024 m) (ltb (length file) (2 + 6 * m)) (or-parts (eqb m 0) _ (counts .0) .1) in
-    record { within = omega (arith, ltb-false (length file) (2 + 6 * m) (tests .1)); most = omega (arith, ltb-false 1024 m (tests .0)) }
+    let sizes = or-parts (ltb size 2) (ltb 65535 size) (past .0) in
+    let some = or-parts (eqb m 0) _ (counts .0) in
+    let tests = or-parts (ltb 1024 m) (ltb size (2 + 6 * m)) (some .1) in
+    record {
+      limit = ltb-false 65535 size (sizes .1);
+      least = λ none. eqb-false m 0 (some .0) (same ∙ none);
+      most = omega (arith, ltb-false 1024 m (tests .0));
+      within = omega (arith, ltb-false size (2 + 6 * m) (tests .1));
+    }
 
 -- a file in order, with its lines read into enough places
 pub record InOrder (file : List ℕ) (places n : ℕ) : Type 0 where
-  pub within : 2 + 6 * n ≤ length file
+  pub head : Head file n
   pub room : n ≤ places
   pub placed : pairs-from file (2 + 6 * n) 0 n ≡ Ok tt
   pub formed : isOk (lines-from file 0 n) ≡ true
@@ -69,7 +79,7 @@ in-order file places n h =
     let same : n ≡ m = sym (read .2) ∙ length-lines file 0 m ls formed in
     let P : ℕ → Type 0 = λ k. InOrder file places k in
     subst P (sym same) (record {
-      within = count-ok file m (head .1) .within;
+      head = count-ok file m (head .1);
       room = ltb-false places m (room .0);
       placed = placed;
       formed = ap isOk formed;
@@ -107,3 +117,19 @@ remark-by file place n (Err fault) h = absurd (no-fault n fault (sym h))
 -- the remark of a file in order
 pub remark-is : (file : List ℕ) (place n : ℕ) → Ok n ≡ counted (reading file 1024) → cond (ltb place n) (Some (remark-of file (pair-at file place))) None ≡ remark-at file place
 remark-is file place n h = remark-by file place n (meaning file) (h ∙ ap counted (reading-all file))
+
+-- what is known of a file that means some lines
+pub record Meant (file : List ℕ) (n : ℕ) (ls : List Line) : Type 0 where
+  pub head : Head file n
+  pub placed : pairs-from file (2 + 6 * n) 0 n ≡ Ok tt
+  pub formed : lines-from file 0 n ≡ Ok ls
+
+pub meant : (file : List ℕ) (ls : List Line) → meaning file ≡ Ok ls → Meant file (length ls) ls
+meant file ls h =
+    let counts = then-ok (count file) (lines-of file) ls h in
+    let n = counts .0 in
+    let pairs = then-ok (as-refusal refusal.Pair (pairs-from file (2 + 6 * n) 0 n)) _ ls (counts .2) in
+    let placed = as-refusal-ok refusal.Pair (pairs-from file (2 + 6 * n) 0 n) tt (pairs .1) in
+    let formed = as-refusal-ok refusal.Line (lines-from file 0 n) ls (pairs .2) in
+    let P : ℕ → Type 0 = λ k. Meant file k ls in
+    subst P (sym (length-lines file 0 n ls formed)) (record { head = count-ok file n (counts .1); placed = placed; formed = formed })

@@ -6,7 +6,7 @@ use Rattle.requests.proofs.reader.read.Needs as need
 pub write-lines-requires : need.write-lines-requires
 write-lines-requires c κs =
     let o = in-order (c .args .file .now) (length (c .args .table .now)) (c .in-Continue-lines .lines) (c .in-Continue-lines .ensures tt) in
-    record { within = o .within; room = o .room; placed = o .placed; formed = o .formed }
+    record { within = o .head .within; room = o .room; placed = o .placed; formed = o .formed }
 
 pub returns : need.returns
 returns c =

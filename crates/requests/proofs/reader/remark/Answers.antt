@@ -11,7 +11,7 @@ returns-in-rest c = remark-fault (c .args .file .now) (c .args .place) _ (c .in-
 pub read-pair-offset-requires : need.read-pair-offset-requires
 read-pair-offset-requires c κs =
     let o = in-order (c .args .file .now) 1024 (c .in-Ok .lines) (c .in-Ok .ensures tt) in
-    record { within = omega (arith, o .within) }
+    record { within = omega (arith, o .head .within) }
 
 pub part-result-end : need.part-result-end
 part-result-end c =
