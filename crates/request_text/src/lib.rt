@@ -8,7 +8,7 @@ use std::alloc::AllocError;
 use std::alloc::Global;
 
 // Why a file is declined.
-pub fn words(refusal: &RequestRefusal) -> &'static str
+fn words(refusal: &RequestRefusal) -> &'static str
     ensures { λ r. ⌜ now r ≡ words-of (now (refusal .entry)) ⌝ }
 {
     match refusal {

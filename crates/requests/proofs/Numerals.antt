@@ -10,14 +10,13 @@ use lib.ListN.{getD}
 use Rattle.std.proofs.shelf.Tests.{and-parts, and-from, and-left, and-right, leb-true, cases-order, lt-leb, le-leb}
 use lib.Dec.{leb}
 use mathlib.Core.Logic.{_⊎_, inl, inr}
-use Rattle.requests.specs.Form.{all-digits, number, is-digit}
+use Rattle.std.specs.declared.result.Result.the-variants.{Ok, Err}
+use Rattle.requests.specs.declared.fault.FieldFault.{FieldFault}
+use Rattle.requests.specs.declared.fault.FieldFault.the-variants.{NotDigit}
+use Rattle.requests.specs.Form.{all-digits, number, is-digit, and-digit, with-digit}
 
 pub digit-true : (b : ℕ) → 48 ≤ b → b ≤ 57 → is-digit b ≡ true
 digit-true b low high = and-from (leb 48 b) (leb b 57) (le-leb 48 b low) (le-leb b 57 high)
-
-pub digit-false : (b : ℕ) → (b < 48) ⊎ ((48 ≤ b) × (57 < b)) → is-digit b ≡ false
-digit-false b (inl low) = and-left (leb 48 b) (leb b 57) (lt-leb 48 b low)
-digit-false b (inr high) = and-right (leb 48 b) (leb b 57) (lt-leb b 57 (high .1))
 
 pub not-digit : (bs : List ℕ) (at w i : ℕ) → i < w → is-digit (getD bs (at + i) 0) ≡ false → all-digits bs at w ≡ false
 unfolding all-digits
@@ -47,6 +46,21 @@ number-lt bs at (suc w) h =
     let high = leb-true b 57 (and-parts (leb 48 b) (leb b 57) (parts .1) .1) in
     omega (arith, pow-suc 10 w, number-lt bs at w (parts .0), high)
 
--- one digit more still fits 64 bits
-pub digit-fits : (n i d : ℕ) → n < 10 ^ i → i < 19 → d ≤ 9 → n * 10 + d < 2 ^ 64
-digit-fits n i d h l k = let p : 10 ^ suc i ≤ 10 ^ 19 = pow-le-pow-right (omega arith) l in omega (arith, pow-suc 10 i, p)
+-- before each of the last digits there is room for it
+pub digit-fits : (n i w : ℕ) → n < 10 ^ i → i < w → w ≤ 18 → n < 10 ^ 18
+digit-fits n i w h l k = let p : 10 ^ i ≤ 10 ^ 18 = pow-le-pow-right {n = 10} (omega arith) {i = i} {j = 18} (omega arith) in omega arith
+
+module _ (n b : ℕ) where
+  pub digit-taken : (v : ℕ) → Ok v ≡ with-digit n b → (is-digit b ≡ true) × (v ≡ and-digit n b)
+  digit-taken v h = by (is-digit b) refl
+    where
+      by : (t : Bool) → is-digit b ≡ t → (is-digit b ≡ true) × (v ≡ and-digit n b)
+      by true e = (e, let k = rw e at h in cc)
+      by false e = let k = rw e at h in let z : _≡_ {A = ℕ} 0 1 = cc in absurd (omega arith)
+
+  pub digit-refused : (e : FieldFault) → Err e ≡ with-digit n b → (is-digit b ≡ false) × (e ≡ NotDigit)
+  digit-refused e h = by (is-digit b) refl
+    where
+      by : (t : Bool) → is-digit b ≡ t → (is-digit b ≡ false) × (e ≡ NotDigit)
+      by true i = let k = rw i at h in let z : _≡_ {A = ℕ} 0 1 = cc in absurd (omega arith)
+      by false i = (i, let k = rw i at h in cc)

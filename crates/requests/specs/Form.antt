@@ -28,14 +28,22 @@ unfoldable pub all-digits : List ℕ → ℕ → ℕ → Bool
 all-digits bs at zero = true
 all-digits bs at (suc w) = all-digits bs at w && is-digit (getD bs (at + w) 0)
 
+-- a number with one digit more
+abbrev pub and-digit : ℕ → ℕ → ℕ
+and-digit n b = n * 10 + (b - 48)
+
 -- A number is that of its digits but the last, times ten, plus the last digit; with no digit it is 0.
 unfoldable pub number : List ℕ → ℕ → ℕ → ℕ
 number bs at zero = 0
-number bs at (suc w) = number bs at w * 10 + (getD bs (at + w) 0 - 48)
+number bs at (suc w) = and-digit (number bs at w) (getD bs (at + w) 0)
 
 -- the number field of w bytes from `at` on
 abbrev pub number-at : List ℕ → ℕ → ℕ → Result ℕ FieldFault
 number-at bs at w = cond (all-digits bs at w) (Ok (number bs at w)) (Err NotDigit)
+
+-- a number with one byte more, which has to be a digit
+abbrev pub with-digit : ℕ → ℕ → Result ℕ FieldFault
+with-digit n b = cond (is-digit b) (Ok (and-digit n b)) (Err NotDigit)
 
 -- a space is the byte 32
 abbrev pub space-at : List ℕ → ℕ → Result (Unit {0}) FieldFault

@@ -64,17 +64,17 @@ impl RequestRefusal {
 }
 
 pub impl From<PairFault> for RequestRefusal as RefusalFromPair {
-    ghost converts = { λ fault r. r ≡ Pair fault };
+    ghost converts = { λ pair r. r ≡ Pair pair };
 
-    fn from(fault: PairFault) -> RequestRefusal {
-        RequestRefusal::Pair(fault)
+    fn from(pair: PairFault) -> RequestRefusal {
+        RequestRefusal::Pair(pair)
     }
 }
 
 pub impl From<LineFault> for RequestRefusal as RefusalFromLine {
-    ghost converts = { λ fault r. r ≡ Line fault };
+    ghost converts = { λ line r. r ≡ Line line };
 
-    fn from(fault: LineFault) -> RequestRefusal {
-        RequestRefusal::Line(fault)
+    fn from(line: LineFault) -> RequestRefusal {
+        RequestRefusal::Line(line)
     }
 }

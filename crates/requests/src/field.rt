@@ -3,26 +3,33 @@ ghost use mathlib.Core.Path.{_≡_};
 ghost use Prim.Native.Nat.{_+_, _^_, _<_, _≤_};
 ghost use lib.ListN.{length, getD};
 ghost use Rattle.std.specs.Vec.{made};
-ghost use Rattle.requests.specs.Form.{number-at, space-at, size-of, kind-of, line-of};
+ghost use Rattle.requests.specs.Form.{with-digit, number-at, space-at, size-of, kind-of, line-of};
 use crate::fault::FieldFault;
 use accounts::record::Kind;
 use accounts::record::Line;
 use accounts::record::Size;
 
+// One digit more: the number so far times ten, plus the digit.
+fn with_digit(gathered: u64, byte: u8) -> Result<u64, FieldFault>
+    requires { ⌜ gathered < 10 ^ 18 ⌝ }
+    ensures { λ r. ⌜ r ≡ with-digit gathered byte ⌝ }
+{
+    if byte < b'0' || byte > b'9' {
+        return Err(FieldFault::NotDigit);
+    }
+    Ok(gathered * 10 + (byte - b'0') as u64)
+}
+
 // The number that the `width` bytes from `at` on write.
 fn number(line: &[u8], at: usize, width: usize) -> Result<u64, FieldFault>
     requires within { ⌜ at + width ≤ length (now line) ⌝ }
-    requires fits { ⌜ width ≤ 19 ⌝ }
+    requires fits { ⌜ width ≤ 18 ⌝ }
     ensures value { λ r. ⌜ r ≡ number-at (now (line .entry)) at width ⌝ }
     ensures bound { λ r. ⌜ made r (λ n. n < 10 ^ width) ⌝ }
 {
     let mut gathered = 0u64;
     for i in 0..width {
-        let byte = line[at + i];
-        if byte < b'0' || byte > b'9' {
-            return Err(FieldFault::NotDigit);
-        }
-        gathered = gathered * 10 + (byte - b'0') as u64;
+        gathered = with_digit(gathered, line[at + i])?;
     }
     Ok(gathered)
 }

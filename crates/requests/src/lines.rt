@@ -1,11 +1,9 @@
 // The lines that the pairs of a file name.
 ghost use mathlib.Core.Path.{_≡_};
-ghost use mathlib.Core.Bool.{true};
 ghost use Prim.Native.Nat.{_+_, _*_, _≤_, _<_};
 ghost use lib.ListN.{length};
-ghost use Rattle.std.specs.Results.{isOk};
 ghost use Rattle.std.specs.declared.result.Result.the-variants.{Ok};
-ghost use Rattle.requests.specs.Meaning.{pair-at, pairs-from, line-at, lines-from, checked, written};
+ghost use Rattle.requests.specs.Meaning.{pair-at, pairs-from, line-at, lines-from, checked, reading, counted, written};
 ghost use Rattle.requests.specs.Parts.{Placed};
 use crate::fault::LineFault;
 use crate::field::fields;
@@ -38,13 +36,10 @@ pub fn check_lines(file: &[u8], lines: usize) -> Result<(), LineFault>
     Ok(())
 }
 
-// Writes the lines to the first places of the table, once all of them are in form.
+// Writes the lines of a file that is in order to the first places of the table.
 pub fn write_lines(file: &[u8], lines: usize, table: &mut [Line])
-    requires within { ⌜ 2 + 6 * lines ≤ length (now file) ⌝ }
-    requires room { ⌜ lines ≤ length (now table) ⌝ }
-    requires placed { ⌜ pairs-from (now file) (2 + 6 * lines) 0 lines ≡ Ok tt ⌝ }
-    requires formed { ⌜ isOk (lines-from (now file) 0 lines) ≡ true ⌝ }
-    ensures { λ _. ⌜ now (table .exit) ≡ written (lines-from (now (file .entry)) 0 lines) (now (table .entry)) ⌝ }
+    requires { ⌜ Ok lines ≡ counted (reading (now file) (length (now table))) ⌝ }
+    ensures { λ _. ⌜ now (table .exit) ≡ written (reading (now (file .entry)) (length (now (table .entry)))) (now (table .entry)) ⌝ }
 {
     for place in 0..lines {
         let Ok(line) = read_line(file, place) else {
