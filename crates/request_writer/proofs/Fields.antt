@@ -1,15 +1,13 @@
 -- The fields of a line that was written read back as they were.
-use mathlib.Core.Path.{_≡_, refl, sym, ap, _∙_}
+use mathlib.Core.Path.{_≡_, refl, ap, _∙_}
 use mathlib.Core.List.{List, [], _∷_, _++_}
-use mathlib.Core.Bool.{Bool, true, false, cond, _&&_}
-use Prim.Native.Nat.{ℕ, zero, suc, _+_, _-_, _*_, _/_, _%_, _^_, _<_, _≤_}
-use native.Mathlib.Nat.{pow-suc, add-assoc, zero-add, add-zero}
-use native.Mathlib.Numerals.{add-one}
+use mathlib.Core.Bool.{true, _&&_}
+use Prim.Native.Nat.{ℕ, zero, suc, _+_, _-_, _*_, _/_, _%_, _^_, _<_}
+use native.Mathlib.Nat.{pow-suc, add-assoc, zero-add}
 use native.Mathlib.Omega.{arith}
-use lib.Dec.{eqb, leb, ltb}
+use lib.Dec.{ltb}
 use lib.ListN.{length, getD}
-use Rattle.std.specs.declared.result.Result.{Result}
-use Rattle.std.specs.declared.result.Result.the-variants.{Ok, Err}
+use Rattle.std.specs.declared.result.Result.the-variants.{Ok}
 use Rattle.std.proofs.shelf.Lists.{append-assoc, length-append, length-push, getD-append-add, getD-at}
 use Rattle.std.proofs.shelf.Tests.{and-from, and-parts, ltb-true, lt-ltb}
 use Rattle.accounts.specs.declared.record.Line.{Line}
@@ -17,10 +15,10 @@ use Rattle.accounts.specs.declared.record.Size.{Size}
 use Rattle.accounts.specs.declared.record.Size.the-variants.{Small, Large}
 use Rattle.accounts.specs.declared.record.Kind.{Kind}
 use Rattle.accounts.specs.declared.record.Kind.the-variants.{Member, Anchor}
-use Rattle.requests.specs.Form.{then, is-digit, all-digits, number, number-at, space-at, size-of, kind-of, remark-space, line-of}
+use Rattle.requests.specs.Form.{is-digit, all-digits, number, number-at, size-of, kind-of, remark-space, line-of}
 use Rattle.requests.proofs.Numerals.{digit-true}
 use Rattle.request_writer.specs.Packing.{Item, digits, field, size-letter, kind-letter, form, behind, text, holds}
-use Rattle.request_writer.proofs.Texts.{length-digits, length-form, length-text}
+use Rattle.request_writer.proofs.Texts.{length-digits}
 
 -- past a first part, a field is that of the rest
 module _ (xs ys : List ℕ) (k : ℕ) where

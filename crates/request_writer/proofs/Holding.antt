@@ -1,29 +1,28 @@
 -- What any file holds can be packed.
 use mathlib.Core.Path.{_≡_, refl, sym, ap, subst, _∙_}
-use mathlib.Core.List.{List, [], _∷_, _++_, map}
-use mathlib.Core.Bool.{Bool, true, false, cond, _&&_, _||_}
-use Prim.Native.Nat.{ℕ, zero, suc, min, _+_, _-_, _*_, _^_, _<_, _≤_}
+use mathlib.Core.List.{List, [], _∷_, map}
+use mathlib.Core.Bool.{Bool, true, false, _&&_}
+use Prim.Native.Nat.{ℕ, suc, _+_, _-_, _*_, _^_, _<_, _≤_}
 use native.Mathlib.Nat.{add-zero, zero-add}
 use native.Mathlib.Omega.{arith}
 use lib.Dec.{eqb, leb, ltb}
-use lib.ListN.{length, getD, take, drop}
+use lib.ListN.{length, getD}
 use Rattle.std.specs.Joined.{joined}
 use Rattle.std.specs.Options.{mapped}
-use Rattle.std.specs.declared.option.Option.the-variants.{Some, None}
+use Rattle.std.specs.declared.option.Option.the-variants.{Some}
 use Rattle.std.specs.declared.result.Result.{Result}
 use Rattle.std.specs.declared.result.Result.the-variants.{Ok, Err}
 use Rattle.std.proofs.shelf.Lists.{length-append, length-map, length-take}
-use Rattle.std.proofs.shelf.Tests.{and-from, and-parts, le-leb, leb-true, lt-ltb, ltb-false, le-ltb, or-from, ne-eqb, cases-lt, cases-bool, cond-true, cond-false}
+use Rattle.std.proofs.shelf.Tests.{and-from, and-parts, le-leb, leb-true, lt-ltb, le-ltb, or-from, ne-eqb, cases-lt}
 use Rattle.accounts.specs.declared.record.Line.{Line}
 use Rattle.requests.specs.declared.pairs.Pair.{Pair}
 use Rattle.requests.specs.declared.fault.FieldFault.{FieldFault}
-use Rattle.requests.specs.declared.fault.PairFault.{PairFault}
 use Rattle.requests.specs.Form.{then, all-digits, number, number-at, space-at, size-of, kind-of, remark-space, line-of}
-use Rattle.requests.specs.Meaning.{pair-at, end-of, fits, pairs-from, part, of-line, line-at, lines-from, meaning, counted, remark-start, remark-of, remark-at, remark-if}
+use Rattle.requests.specs.Meaning.{pair-at, end-of, fits, pairs-from, part, of-line, line-at, lines-from, meaning, remark-start, remark-of, remark-at}
 use Rattle.requests.proofs.Numerals.{number-lt}
 use Rattle.requests.proofs.Judged.{no-fault, lines-split}
 use Rattle.requests.proofs.Readings.{Meant, meant}
-use mathlib.Core.Logic.{_⊎_, inl, inr}
+use mathlib.Core.Logic.{inl, inr}
 use Rattle.request_writer.specs.declared.refusal.WriteRefusal.{WriteRefusal}
 use Rattle.request_writer.specs.Packing.{Item, behind, text, holds, items-from, file-of, packing, Refuses, Unheld, ReadsBack}
 use Rattle.request_writer.proofs.Texts.{length-text}

@@ -1,7 +1,7 @@
 -- Packing lines one by one.
-use mathlib.Core.Path.{_≡_, refl, sym, ap, _∙_}
+use mathlib.Core.Path.{_≡_, refl}
 use mathlib.Core.List.{List, [], _∷_, _++_, map}
-use Prim.Native.Nat.{ℕ, zero, suc, _+_, _-_, _*_, _/_, _%_, _^_, _<_, _≤_}
+use Prim.Native.Nat.{ℕ, zero, suc, _+_, _-_, _/_, _%_, _<_, _≤_}
 use native.Mathlib.Omega.{arith}
 use lib.ListN.{length, drop, getD}
 use Rattle.std.specs.Joined.{joined}
@@ -9,7 +9,7 @@ use Rattle.std.proofs.shelf.Lists.{append-assoc, length-append, length-push, dr
 use Rattle.accounts.specs.declared.record.Size.the-variants.{Small}
 use Rattle.accounts.specs.declared.record.Kind.the-variants.{Member}
 use Rattle.request_writer.specs.declared.entry.Entry.{Entry}
-use Rattle.request_writer.specs.Packing.{Item, item, behind, text, little-bytes, pairs}
+use Rattle.request_writer.specs.Packing.{item, behind, text, little-bytes, pairs}
 use Rattle.request_writer.proofs.Texts.{length-text, three}
 
 pub two-bytes : (n : ℕ) → little-bytes 2 n ≡ n % 256 ∷ n / 256 % 256 ∷ []

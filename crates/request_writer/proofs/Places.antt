@@ -1,18 +1,13 @@
 -- Where the lines of a packed file stand.
 use mathlib.Core.Path.{_≡_, refl, sym, ap, _∙_}
-use mathlib.Core.List.{List, [], _∷_, _++_, map}
-use mathlib.Core.Bool.{Bool, true, false, cond, _&&_}
-use Prim.Native.Nat.{ℕ, zero, suc, _+_, _-_, _*_, _/_, _%_, _^_, _<_, _≤_}
+use mathlib.Core.List.{List, [], _∷_, _++_}
+use Prim.Native.Nat.{ℕ, zero, suc, _+_, _-_, _*_, _/_, _%_, _^_, _<_}
 use native.Mathlib.Nat.{pow-succ', pow-le-pow-right, mod-eq-of-lt, add-assoc, add-comm, zero-add}
 use native.Mathlib.Omega.{arith}
 use lib.Arith.{mod-mul}
-use lib.Dec.{eqb, leb, ltb}
-use lib.ListN.{length, getD, take, drop}
+use lib.ListN.{length, getD, drop}
 use Rattle.std.specs.Joined.{joined}
-use Rattle.std.specs.declared.result.Result.{Result}
-use Rattle.std.specs.declared.result.Result.the-variants.{Ok, Err}
-use Rattle.std.proofs.shelf.Lists.{append-assoc, length-append, length-push, getD-append-add, getD-at, drop-drop, drop-at}
-use Rattle.requests.specs.declared.pairs.Pair.{Pair}
+use Rattle.std.proofs.shelf.Lists.{append-assoc, length-append, getD-append-add, getD-at, drop-drop, drop-at}
 use Rattle.requests.specs.Meaning.{little, pair-at}
 use Rattle.request_writer.specs.Packing.{Item, text, little-bytes, pairs}
 use Rattle.request_writer.proofs.Packs.{length-little}

@@ -1,30 +1,28 @@
 -- Reading what was packed gives it back.
 use mathlib.Core.Path.{_≡_, refl, sym, ap, _∙_}
 use mathlib.Core.List.{List, [], _∷_, _++_, map}
-use mathlib.Core.Bool.{Bool, true, false, cond, _&&_, _||_}
+use mathlib.Core.Bool.{Bool, true, false, _||_}
 use Prim.Native.Nat.{ℕ, zero, suc, _+_, _-_, _*_, _<_, _≤_}
 use native.Mathlib.Nat.{add-zero, zero-add}
 use native.Mathlib.Omega.{arith}
 use lib.Dec.{eqb, leb, ltb}
-use lib.ListN.{length, getD, take, drop}
+use lib.ListN.{length, getD, drop}
 use Rattle.std.specs.Joined.{joined}
 use Rattle.std.specs.Options.{mapped}
 use Rattle.std.specs.declared.option.Option.the-variants.{Some}
 use Rattle.std.specs.declared.result.Result.{Result}
 use Rattle.std.specs.declared.result.Result.the-variants.{Ok, Err}
 use Rattle.std.proofs.shelf.Lists.{append-assoc, append-nil, length-append, length-push, length-map, drop-drop, drop-at, take-at}
-use Rattle.std.proofs.shelf.Tests.{and-from, le-leb, leb-true, lt-ltb, le-ltb, or-from, or-parts, ltb-false, eqb-false, ne-eqb, cond-true}
+use Rattle.std.proofs.shelf.Tests.{and-from, le-leb, leb-true, lt-ltb, le-ltb, or-from, or-parts, ltb-false, eqb-false, ne-eqb}
 use Rattle.accounts.specs.declared.record.Line.{Line}
-use Rattle.requests.specs.declared.pairs.Pair.{Pair}
-use Rattle.requests.specs.Form.{then, line-of}
-use Rattle.requests.specs.Meaning.{little, pair-at, end-of, fits, pairs-from, part, of-line, line-at, lines-from, count, lines-of, meaning, remark-start, remark-of, remark-at}
+use Rattle.requests.specs.Meaning.{little, pair-at, fits, pairs-from, line-at, lines-from, count, meaning, remark-of, remark-at}
 use Rattle.requests.proofs.Judged.{no-fault, then-ok}
 use Rattle.requests.proofs.Readings.{cond-ok}
 use Rattle.request_writer.specs.declared.refusal.WriteRefusal.{WriteRefusal}
 use Rattle.request_writer.specs.declared.refusal.WriteRefusal.the-variants as refusal
 use Rattle.request_writer.specs.Packing.{Item, form, behind, text, holds, little-bytes, pairs, file-of, items-from, packing, sized, ReadsBack}
 use Rattle.request_writer.proofs.Texts.{length-form, length-text}
-use Rattle.request_writer.proofs.Packs.{length-little, length-behind-most}
+use Rattle.request_writer.proofs.Packs.{length-little}
 use Rattle.request_writer.proofs.Checks.{size, length-file, length-pairs, text-most}
 use Rattle.request_writer.proofs.Fields.{text-back}
 use Rattle.request_writer.proofs.Places.{Stands, stands, little-back}

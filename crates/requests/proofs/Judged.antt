@@ -1,8 +1,8 @@
 -- Judging the pairs and the lines of a file one by one.
 use mathlib.Core.Path.{_≡_, refl, sym, ap, _∙_}
 use mathlib.Core.List.{List, [], _∷_, _++_}
-use mathlib.Core.Bool.{Bool, true, false, cond}
-use Prim.Native.Nat.{ℕ, zero, suc, _+_, _-_, _*_, _<_, _≤_}
+use mathlib.Core.Bool.{true, false}
+use Prim.Native.Nat.{ℕ, zero, suc, _+_, _-_, _<_, _≤_}
 use native.Mathlib.Nat.{add-zero, zero-add}
 use native.Mathlib.Omega.{arith}
 use lib.ListN.{length, take, drop, getD, set}
@@ -13,12 +13,11 @@ use lib.Dec.{leb}
 use Rattle.std.specs.declared.result.Result.{Result}
 use Rattle.std.specs.declared.result.Result.the-variants.{Ok, Err}
 use Rattle.std.proofs.shelf.Tests.{cond-true, cond-false, cases-order, false≢true, cases-bool, and-parts, leb-true}
-use mathlib.Core.Logic.{_⊎_, inl, inr}
+use mathlib.Core.Logic.{inl, inr}
 use Rattle.accounts.specs.declared.record.Line.{Line}
 use Rattle.accounts.specs.declared.record.Size.the-variants.{Small}
 use Rattle.accounts.specs.declared.record.Kind.the-variants.{Member}
 use Rattle.requests.specs.declared.pairs.Pair.{Pair}
-use Rattle.requests.specs.declared.fault.PairFault.{PairFault}
 use Rattle.requests.specs.declared.fault.LineFault.{LineFault}
 use Rattle.requests.specs.Form.{then, line-of}
 use Rattle.requests.specs.Meaning.{pair-at, end-of, fits, pairs-from, part, of-line, line-at, lines-from, checked, written}

@@ -1,15 +1,15 @@
 -- The number that digits write, digit by digit.
-use mathlib.Core.Path.{_≡_, refl, ap, _∙_}
+use mathlib.Core.Path.{_≡_, refl}
 use mathlib.Core.List.{List}
-use mathlib.Core.Bool.{Bool, true, false, _&&_}
+use mathlib.Core.Bool.{Bool, true, false}
 use Prim.Native.Nat.{ℕ, zero, suc, _+_, _-_, _*_, _^_, _<_, _≤_}
 use native.Mathlib.Nat.{pow-suc, pow-le-pow-right}
 use native.Mathlib.Numerals.{add-one}
 use native.Mathlib.Omega.{arith}
 use lib.ListN.{getD}
-use Rattle.std.proofs.shelf.Tests.{and-parts, and-from, and-left, and-right, leb-true, cases-order, lt-leb, le-leb}
+use Rattle.std.proofs.shelf.Tests.{and-parts, and-from, and-left, and-right, leb-true, cases-order, le-leb}
 use lib.Dec.{leb}
-use mathlib.Core.Logic.{_⊎_, inl, inr}
+use mathlib.Core.Logic.{inl, inr}
 use Rattle.std.specs.declared.result.Result.the-variants.{Ok, Err}
 use Rattle.requests.specs.declared.fault.FieldFault.{FieldFault}
 use Rattle.requests.specs.declared.fault.FieldFault.the-variants.{NotDigit}

@@ -1,7 +1,7 @@
 // The fields of a line: numbers of a fixed width, single spaces between them, two letters.
 ghost use mathlib.Core.Path.{_≡_};
 ghost use Prim.Native.Nat.{_+_, _^_, _<_, _≤_};
-ghost use lib.ListN.{length, getD};
+ghost use lib.ListN.{length};
 ghost use Rattle.std.specs.Vec.{made};
 ghost use Rattle.requests.specs.Form.{with-digit, number-at, space-at, size-of, kind-of, line-of};
 use crate::fault::FieldFault;

@@ -1,6 +1,5 @@
 // The head of a file: the line count, and a pair of offset and length for each line.
 ghost use mathlib.Core.Path.{_≡_};
-ghost use mathlib.Core.Bool.{true};
 ghost use Prim.Native.Nat.{_+_, _*_, _≤_, _<_};
 ghost use lib.ListN.{length};
 ghost use Rattle.requests.specs.Meaning.{little, pair-at, end-of, fits, pairs-from, count};

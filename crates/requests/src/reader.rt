@@ -1,6 +1,6 @@
 // Reading a request file, and the remark of one of its lines.
 ghost use mathlib.Core.Path.{_≡_};
-ghost use Prim.Native.Nat.{_+_, _≤_, _<_};
+ghost use Prim.Native.Nat.{_+_, _<_};
 ghost use lib.ListN.{length};
 ghost use Rattle.std.specs.Options.{mapped};
 ghost use Rattle.requests.specs.Meaning.{reading, counted, written, remark-at};
@@ -36,7 +36,8 @@ pub fn read(file: &[u8], table: &mut [Line]) -> Result<usize, RequestRefusal>
     ensures answer { λ r. ⌜ r ≡ counted (reading (now (file .entry)) (length (now (table .entry)))) ⌝ }
     ensures table { λ _. ⌜ now (table .exit) ≡ written (reading (now (file .entry)) (length (now (table .entry)))) (now (table .entry)) ⌝ }
 {
-    let lines = judge(file, table.len())?;
+    let places = table.len();
+    let lines = judge(file, places)?;
     write_lines(file, lines, table);
     Ok(lines)
 }

@@ -142,3 +142,19 @@ fn remarks() -> Result<(), Fail> {
     check(remark(&FILE[0..124], 2).is_some())?;
     check(remark(&FILE[0..123], 0).is_none())
 }
+
+// All pairs are judged before any line: a fault of the last pair comes before one of the first line.
+#[test]
+fn pairs_before_lines(rt: LibcRuntime) -> Result<(), Fail> {
+    let mut file = FILE.to_vec(rt.alloc())?;
+    for (at, byte) in [(20, b'x'), (18, 111)] {
+        if let Some(target) = file.get_mut(at) {
+            *target = byte;
+        }
+    }
+    let mut table = [BLANK; 3];
+    match read(file.as_slice(), &mut table) {
+        Ok(_) => Err(Fail::new("read")),
+        Err(refusal) => check_eq((refusal.number(), refusal.place()), (4, 2)),
+    }
+}

@@ -1,7 +1,7 @@
-use mathlib.Core.Path.{_≡_, _∙_}
+use mathlib.Core.Path.{_∙_}
 use Prim.Native.Nat.{_≤_}
 use native.Mathlib.Omega.{arith}
-use lib.ListN.{length, getD}
+use lib.ListN.{getD}
 use Rattle.request_writer.specs.Packing.{item, text}
 use Rattle.request_writer.proofs.Packs.{blank, left-more}
 use Rattle.request_writer.proofs.Checks.{no-lines, faulty, too-long, packable, items-more, items-number, items-remark, items-all, text-most, whole}

@@ -1,4 +1,4 @@
-use mathlib.Core.Path.{_∙_, sym, ap}
+use mathlib.Core.Path.{ap}
 use mathlib.Core.List.{map}
 use mathlib.Core.Logic.{inl, inr}
 use mathlib.Core.Path.{refl}

@@ -1,5 +1,4 @@
 use native.Mathlib.Omega.{arith}
-use borrow.Author.Needs.{needs}
 use Rattle.requests.specs.Meaning.{pair-at}
 use Rattle.requests.proofs.pairs.read_pair.Needs as need
 

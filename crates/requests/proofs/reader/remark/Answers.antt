@@ -1,8 +1,7 @@
-use mathlib.Core.Path.{_≡_, refl, sym, ap, _∙_}
 use native.Mathlib.Omega.{arith}
 use Prim.Native.Nat.{_+_, _*_}
 use Rattle.requests.proofs.Judged.{pairs-placed}
-use Rattle.requests.proofs.Readings.{in-order, remark-fault, remark-is}
+use Rattle.requests.proofs.Readings.{in-order, remark-fault}
 use Rattle.requests.proofs.reader.remark.Needs as need
 
 pub returns-in-rest : need.returns-in-rest
