@@ -215,3 +215,9 @@ module _ (bs : List ℕ) (small : All (λ b. b < 256) bs) where
       let v = joined 12 2 (r .savings) _ (omega arith) (h .savings) m in
       let p = joined 8 4 (r .percentage) _ (omega arith) (h .percentage) v in
       joined 0 8 (r .account) _ (omega arith) (h .account) p
+
+-- what decodes is in range
+pub in-range-decoded : (bs : List ℕ) (r : Record) → decoded bs ≡ Some r → in-range r ≡ true
+in-range-decoded bs r e =
+    cond-both (in-range r) (Some r) None (λ o. o ≡ Some r → in-range r ≡ true) (λ i _. i) (λ _ f. nothing r f)
+    (sym (decoded-holds bs r (holds-decoded bs r e)) ∙ e)

@@ -1,0 +1,3 @@
+pub mod Images
+pub mod Refusals
+pub mod Reading
