@@ -221,3 +221,7 @@ pub in-range-decoded : (bs : List ℕ) (r : Record) → decoded bs ≡ Some r �
 in-range-decoded bs r e =
     cond-both (in-range r) (Some r) None (λ o. o ≡ Some r → in-range r ≡ true) (λ i _. i) (λ _ f. nothing r f)
     (sym (decoded-holds bs r (holds-decoded bs r e)) ∙ e)
+
+pub length-encoded : (r : Record) → length (encoded r) ≡ 36
+unfolding le encoded
+length-encoded r = refl

@@ -4,7 +4,7 @@ use mathlib.Core.Path.{_≡_, refl, ap, sym, _∙_, subst}
 use mathlib.Core.List.{List, [], _∷_, _++_, append-assoc}
 use native.Mathlib.Omega.{arith}
 use native.Mathlib.Nat.{pow-suc, pow-le-pow-right}
-use lib.ListN.{length, take, drop, getD, set}
+use lib.ListN.{length, take, drop, getD, set, replicate}
 use lib.Seq.{sets, sets-eq, length-sets}
 use Rattle.std.proofs.shelf.Lists.{at-drop-more, at-drop-all}
 use Rattle.std.specs.shelf.Lists.{All}
@@ -69,3 +69,8 @@ sets-end bs at i width n h = let w : width - i ≡ 0 = omega arith in rw w
 
 pub written-sets : (bs : List ℕ) (at width n : ℕ) → at + width ≤ length bs → sets bs at (le width n) ≡ written at (le width n) bs
 written-sets bs at width n h = let l = length-le width n in sets-eq (le width n) bs at (omega arith) ∙ append-assoc (take at bs) (le width n) (drop (at + length (le width n)) bs)
+
+-- four zero bytes are the number 0
+pub four-zeros : le 4 0 ≡ replicate 4 0
+unfolding le
+four-zeros = refl
