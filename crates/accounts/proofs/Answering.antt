@@ -6,7 +6,7 @@ use mathlib.Core.List.{List}
 use native.Mathlib.Omega.{arith}
 use lib.Dec.{eqb, ltb}
 use lib.ListN.{length}
-use Rattle.std.proofs.shelf.Tests.{and-from, and-right, lt-ltb, eq-eqb, ne-eqb}
+use Rattle.std.proofs.shelf.Tests.{and-from, and-left, and-right, lt-ltb, le-ltb, eq-eqb, ne-eqb}
 use Rattle.std.proofs.shelf.Maps.{nth-past}
 use Rattle.std.specs.Finite.{nth}
 use Rattle.std.specs.Options.{isSome}
@@ -38,3 +38,6 @@ suits-other rs i r old e h =
 pub suits-same : (rs : List Record) (i : ℕ) (r old : Record) → nth rs i ≡ Some old → old .account ≡ r .account → in-range r ≡ true → suits rs i r ≡ true
 suits-same rs i r old e h ok =
     and-from (in-range r) (same-account (nth rs i) r) ok (ap (λ o. same-account o r) e ∙ eq-eqb (old .account) (r .account) h)
+
+pub takes-full : (rs : List Record) (room : ℕ) (r : Record) → room ≤ length rs → takes rs room r ≡ false
+takes-full rs room r h = and-left (ltb (length rs) room) (in-range r && not (present (r .account) (accounts rs))) (le-ltb (length rs) room h)

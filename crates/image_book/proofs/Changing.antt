@@ -25,10 +25,10 @@ use Rattle.image_book.proofs.Places.{held-more}
 use Rattle.image_book.proofs.Opening.{Open, proper-open}
 use Rattle.image_book.proofs.Writing.{held-same, legible-same, held-set, length-put, slot-put, slot-other, count-put, length-count, slot-count, count-count}
 
-abbrev with-record : ℕ → Record → List ℕ → List ℕ
+abbrev pub with-record : ℕ → Record → List ℕ → List ℕ
 with-record i r bs = written (start-of i) (encoded r) bs
 
-abbrev with-added : ℕ → Record → List ℕ → List ℕ
+abbrev pub with-added : ℕ → Record → List ℕ → List ℕ
 with-added n r bs = written 0 (le 4 (n + 1)) (with-record n r bs)
 
 module _ (bs : List ℕ) (n room : ℕ) (o : Open bs n room) (r : Record) (ok : in-range r ≡ true) where
@@ -92,9 +92,9 @@ module _ (bs : List ℕ) (n room : ℕ) (o : Open bs n room) (r : Record) (ok : 
           whole = ap (λ k. min 4096 ((k - 4) / 36)) e ∙ o .whole;
           fits = o .fits;
           legible = λ j k.
-            ⊎-elim
-            (λ q. ap (λ m. isSome (decoded (slot m (with-record i r bs)))) q ∙ ap isSome put-there)
-            (λ q. ap (λ s. isSome (decoded s)) (slot-other bs i inside r j q) ∙ o .legible j k)
-            (cases-eq j i);
+              ⊎-elim
+              (λ q. ap (λ m. isSome (decoded (slot m (with-record i r bs)))) q ∙ ap isSome put-there)
+              (λ q. ap (λ s. isSome (decoded s)) (slot-other bs i inside r j q) ∙ o .legible j k)
+              (cases-eq j i);
           apart = ap (λ rs. distinct (accounts rs)) list-replaced ∙ p .apart;
         }

@@ -56,12 +56,12 @@ module _ (at : ℕ) (new bs : List ℕ) (fits : at + length new ≤ length bs) w
       let m : at + length new + (at′ - (at + length new)) ≡ at′ = omega arith in
       let rest = drop (at + length new) bs in
       let s : drop (at + length new) (written at new bs) ≡ rest =
-          ap (λ xs. drop (at + length new) xs) (sym (append-assoc (take at bs) new rest)) ∙ drop-at (take at bs ++ new) rest (at + length new) (omega arith) in
+      ap (λ xs. drop (at + length new) xs) (sym (append-assoc (take at bs) new rest)) ∙ drop-at (take at bs ++ new) rest (at + length new) (omega arith) in
       let e : drop at′ (written at new bs) ≡ drop at′ bs =
-          ap (λ n. drop n (written at new bs)) (sym m)
-          ∙ (sym (drop-drop (at′ - (at + length new)) (at + length new) (written at new bs))
-          ∙ (ap (λ xs. drop (at′ - (at + length new)) xs) s
-          ∙ (drop-drop (at′ - (at + length new)) (at + length new) bs ∙ ap (λ n. drop n bs) m))) in
+      ap (λ n. drop n (written at new bs)) (sym m)
+      ∙ (sym (drop-drop (at′ - (at + length new)) (at + length new) (written at new bs))
+      ∙ (ap (λ xs. drop (at′ - (at + length new)) xs) s
+      ∙ (drop-drop (at′ - (at + length new)) (at + length new) bs ∙ ap (λ n. drop n bs) m))) in
       ap (λ xs. take width xs) e
 
 -- a search along the places

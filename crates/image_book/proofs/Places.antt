@@ -98,9 +98,9 @@ module _ (bs : List ℕ) where
       let len = length-held n l′ in
       ⊎-elim
       (λ q.
-        let o : Some (s .0) ≡ Some r = sym (s .1) ∙ (ap (λ j. decoded (slot j bs)) (sym q) ∙ e) in
-        let x : s .0 ≡ r = cc in
-        m ∙ (getD-at (held n bs) (s .0) [] d i (len ∙ sym q) ∙ x))
+      let o : Some (s .0) ≡ Some r = sym (s .1) ∙ (ap (λ j. decoded (slot j bs)) (sym q) ∙ e) in
+      let x : s .0 ≡ r = cc in
+      m ∙ (getD-at (held n bs) (s .0) [] d i (len ∙ sym q) ∙ x))
       (λ q. m ∙ (getD-append-left (held n bs) (s .0 ∷ []) d i (omega arith) ∙ getD-held n i r d l′ (omega arith) e))
       (cases-eq i n)
 
@@ -142,8 +142,8 @@ module _ (bs : List ℕ) where
       let d′ = ap distinct (sym e) ∙ d in
       ⊎-elim
       (λ q.
-        let u : unfit n bs ≡ false = ap (unfit-after (accounts (held n bs))) (s .1) ∙ distinct-last (s .0 .account) (accounts (held n bs)) d′ in
-        ap (λ k. unfit k bs) q ∙ u)
+      let u : unfit n bs ≡ false = ap (unfit-after (accounts (held n bs))) (s .1) ∙ distinct-last (s .0 .account) (accounts (held n bs)) d′ in
+      ap (λ k. unfit k bs) q ∙ u)
       (λ q. fit-each n (legible-less (suc n) n (omega arith) l) (distinct-before (s .0 .account) (accounts (held n bs)) d′) j (omega arith))
       (cases-eq j n)
 

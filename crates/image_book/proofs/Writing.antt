@@ -51,13 +51,13 @@ held-set (suc n) i bs bs′ r h l e f =
     let m = held-more bs n (s .0) (s .1) in
     ⊎-elim
     (λ q.
-      let m′ = held-more bs′ n r (subst (λ k. decoded (slot k bs′) ≡ Some r) q e) in
-      let same = held-same n bs bs′ (λ j k. f j (λ p. omega arith)) in
-      m′ ∙ (ap (λ rs. rs ++ r ∷ []) same ∙ sym (ap (λ rs. set rs i r) m ∙ set-at (held n bs) (s .0) [] r i (omega arith))))
+    let m′ = held-more bs′ n r (subst (λ k. decoded (slot k bs′) ≡ Some r) q e) in
+    let same = held-same n bs bs′ (λ j k. f j (λ p. omega arith)) in
+    m′ ∙ (ap (λ rs. rs ++ r ∷ []) same ∙ sym (ap (λ rs. set rs i r) m ∙ set-at (held n bs) (s .0) [] r i (omega arith))))
     (λ q.
-      let m′ = held-more bs′ n (s .0) (ap decoded (f n (λ p. q (sym p))) ∙ s .1) in
-      let ih = held-set n i bs bs′ r (omega arith) l′ e f in
-      m′ ∙ (ap (λ rs. rs ++ s .0 ∷ []) ih ∙ sym (ap (λ rs. set rs i r) m ∙ set-append-left (held n bs) (s .0 ∷ []) i r (omega arith))))
+    let m′ = held-more bs′ n (s .0) (ap decoded (f n (λ p. q (sym p))) ∙ s .1) in
+    let ih = held-set n i bs bs′ r (omega arith) l′ e f in
+    m′ ∙ (ap (λ rs. rs ++ s .0 ∷ []) ih ∙ sym (ap (λ rs. set rs i r) m ∙ set-append-left (held n bs) (s .0 ∷ []) i r (omega arith))))
     (cases-eq i n)
 
 -- a record written at a place
@@ -76,8 +76,8 @@ module _ (bs : List ℕ) (i : ℕ) (h : i < capacity-of bs) (r : Record) where
       let e = length-encoded r in
       ⊎-elim (λ q. absurd (n q))
       (⊎-elim
-        (λ q. part-before (start-of i) (encoded r) bs fits (start-of j) 36 (omega arith))
-        (λ q. part-after (start-of i) (encoded r) bs fits (start-of j) 36 (omega arith)))
+      (λ q. part-before (start-of i) (encoded r) bs fits (start-of j) 36 (omega arith))
+      (λ q. part-after (start-of i) (encoded r) bs fits (start-of j) 36 (omega arith)))
       (cases-order j i)
 
   pub count-put : part 0 4 (written (start-of i) (encoded r) bs) ≡ part 0 4 bs

@@ -1,10 +1,13 @@
 // An account book in an image of bytes that the caller lends.
 ghost use denote.Ref.{now, name};
+ghost use mathlib.Core.Bool.{cond};
 ghost use mathlib.Core.List.{List, [], _∷_};
 ghost use mathlib.Core.Path.{_≡_};
-ghost use Prim.Native.Nat.{ℕ, min};
+ghost use Prim.Native.Nat.{ℕ, _<_, min};
 ghost use Rattle.accounts.specs.Books.{takes, added, suits, replaced, Left};
-ghost use Rattle.image_book.specs.Images.{capacity-of};
+ghost use Rattle.record_codec.specs.Bytes.{le, written};
+ghost use Rattle.record_codec.specs.Codec.{encoded};
+ghost use Rattle.image_book.specs.Images.{capacity-of, account-at};
 ghost use Rattle.image_book.specs.Reading.{opened-count, opened-room, started, started-room};
 ghost use Rattle.image_book.specs.Holding.{image-of, loan-of, records-of, room-of, Sound, Added, Replaced};
 ghost use Rattle.image_book.specs.declared.book.ImageBook.{ImageBook};
@@ -34,11 +37,19 @@ impl<'a> ImageBook<'a> {
         ensures sound { λ r. ⌜ Sound r ⌝ }
     {
         if check_start(image).is_err() {
-            return ImageBook { image, count: 0, room: 0 };
+            return ImageBook {
+                image,
+                count: 0,
+                room: 0,
+            };
         }
         let room = layout::capacity(image);
         layout::put(image, 0, &four_bytes(0));
-        ImageBook { image, count: 0, room }
+        ImageBook {
+            image,
+            count: 0,
+            room,
+        }
     }
 
     // The book that an image holds; an unfit image stays as it is, and makes a book of no room. A book whose image is opened
@@ -52,7 +63,11 @@ impl<'a> ImageBook<'a> {
         ensures again { λ r. ⌜ ((b : ImageBook) → Sound b → image-of b ≡ now (image .entry) → (records-of r ≡ records-of b) × (room-of r ≡ room-of b)) ⌝ }
     {
         if check_open(image).is_err() {
-            return ImageBook { image, count: 0, room: 0 };
+            return ImageBook {
+                image,
+                count: 0,
+                room: 0,
+            };
         }
         let count = layout::count(image);
         let room = layout::capacity(image);
@@ -71,6 +86,14 @@ impl<'a> ImageBook<'a> {
         ensures { λ r. ⌜ r ≡ min (room-of (now (self .entry))) (capacity-of (image-of (now (self .entry)))) ⌝ }
     {
         self.room.min(layout::capacity(self.image))
+    }
+
+    // The account number at a place.
+    fn account(&self, place: usize) -> u64
+        requires { ⌜ place < capacity-of (image-of (now self)) ⌝ }
+        ensures { λ r. ⌜ r ≡ account-at (image-of (now (self .entry))) place ⌝ }
+    {
+        layout::account_at(self.image, place)
     }
 }
 
@@ -139,11 +162,21 @@ pub impl<'a> AccountBook for ImageBook<'a> as ImageAccountBook {
         if !new.in_range() {
             return false;
         }
-        if layout::account_at(self.image, place) != new.account {
+        if self.account(place) != new.account {
             return false;
         }
         let at = layout::start(place);
         layout::put(self.image, at, &encode(&new));
         true
     }
+}
+
+// Starts a book in an image with a first record, and lets the book go: the record's bytes and the count 1 are left in the
+// image, or, where the record is out of range or the image has no room, the image is as starting left it.
+pub fn enter_first(image: &mut [u8], first: Record) -> bool
+    ensures answer { λ r. ⌜ r ≡ takes [] (started-room (now (image .entry))) first ⌝ }
+    ensures image { λ r. ⌜ now (image .exit) ≡ cond r (written 0 (le 4 1) (written 4 (encoded first) (started (now (image .entry))))) (started (now (image .entry))) ⌝ }
+{
+    let mut book = ImageBook::start(image);
+    book.add(first)
 }
