@@ -6,53 +6,43 @@ use mathlib.Core.List.{List, [], _∷_, _++_}
 use native.Mathlib.Omega.{arith}
 use lib.Dec.{eqb}
 use lib.ListN.{length, getD, set, take, drop}
-use Rattle.std.proofs.shelf.Lists.{length-set, length-take-le, take-more-set, getD-take}
+use Rattle.std.proofs.shelf.Lists.{length-set, length-take, take-more-set, getD-take}
 use Rattle.std.proofs.shelf.Tests.{eq-eqb, ne-eqb, cond-true, cond-false}
 use Rattle.std.proofs.shelf.Maps.{nth-getD, nth-past}
 use Rattle.std.specs.Finite.{nth}
 use Rattle.std.specs.declared.option.Option.{Option}
 use Rattle.std.specs.declared.option.Option.the-variants.{None, Some}
 use Rattle.accounts.specs.declared.record.Record.{Record}
-use Rattle.accounts.specs.declared.record.Size.the-variants.{Small}
-use Rattle.accounts.specs.declared.record.Kind.the-variants.{Member}
-use Rattle.accounts.specs.declared.record.State.the-variants.{Open}
 use Rattle.accounts.specs.Books.{accounts, find-from, Proper, takes, suits}
 use Rattle.accounts.proofs.Finding.{find-step, find-end}
+use Rattle.table_book.specs.Tables.{blank}
 use Rattle.accounts.proofs.Keeping.{proper-add, proper-replace}
 
--- what a read past the table's end would stand for
-abbrev pub blank : Record
-blank = record { account = 0; percentage = 0; savings = 0; class = 0; size = Small; kind = Member; state = Open; held = 0; last = 0 }
+module _ (table : List Record) (n : ℕ) where
+  pub records-length : length (take n table) ≡ min n (length table)
+  records-length = length-take n table
 
-module _ (table : List Record) (n : ℕ) (fits : n ≤ length table) where
-  pub records-length : length (take n table) ≡ n
-  records-length = length-take-le n table fits
-
-  pub record-at : (i : ℕ) (d : Record) → i < n → nth (take n table) i ≡ Some (getD table i d)
-  record-at i d h =
+  pub record-at : (i : ℕ) → i < min n (length table) → nth (take n table) i ≡ Some (getD table i blank)
+  record-at i h =
       let m = records-length in
-      nth-getD (take n table) i d (omega arith) ∙ ap Some (getD-take n table i d h)
+      nth-getD (take n table) i blank (omega arith) ∙ ap Some (getD-take n table i blank (omega arith))
 
-  pub record-past : (i : ℕ) → n ≤ i → nth (take n table) i ≡ None
+  pub record-past : (i : ℕ) → min n (length table) ≤ i → nth (take n table) i ≡ None
   record-past i h = let m = records-length in nth-past (take n table) i (omega arith)
 
-  pub found-here : (a i : ℕ) → i < n → getD table i blank .account ≡ a → find-from i a (drop i (accounts (take n table))) ≡ Some i
-  found-here a i h e =
+  next : (a i : ℕ) → i < min n (length table) → find-from i a (drop i (accounts (take n table))) ≡ cond (eqb (getD table i blank .account) a) (Some i) (find-from (i + 1) a (drop (i + 1) (accounts (take n table))))
+  next a i h =
       let m = records-length in
-      let b = eq-eqb (getD table i blank .account) a e in
       find-step a i (take n table) blank (omega arith)
-      ∙ (ap (λ x. cond (eqb (x .account) a) (Some i) (find-from (i + 1) a (drop (i + 1) (accounts (take n table))))) (getD-take n table i blank h)
-      ∙ cond-true (eqb (getD table i blank .account) a) (Some i) (find-from (i + 1) a (drop (i + 1) (accounts (take n table)))) b)
+      ∙ ap (λ x. cond (eqb (x .account) a) (Some i) (find-from (i + 1) a (drop (i + 1) (accounts (take n table))))) (getD-take n table i blank (omega arith))
 
-  pub found-later : (a i : ℕ) → i < n → (getD table i blank .account ≡ a → ⊥) → find-from i a (drop i (accounts (take n table))) ≡ find-from (i + 1) a (drop (i + 1) (accounts (take n table)))
-  found-later a i h e =
-      let m = records-length in
-      let b = ne-eqb (getD table i blank .account) a e in
-      find-step a i (take n table) blank (omega arith)
-      ∙ (ap (λ x. cond (eqb (x .account) a) (Some i) (find-from (i + 1) a (drop (i + 1) (accounts (take n table))))) (getD-take n table i blank h)
-      ∙ cond-false (eqb (getD table i blank .account) a) (Some i) (find-from (i + 1) a (drop (i + 1) (accounts (take n table)))) b)
+  pub found-here : (a i : ℕ) → i < min n (length table) → getD table i blank .account ≡ a → find-from i a (drop i (accounts (take n table))) ≡ Some i
+  found-here a i h e = next a i h ∙ cond-true (eqb (getD table i blank .account) a) (Some i) (find-from (i + 1) a (drop (i + 1) (accounts (take n table)))) (eq-eqb (getD table i blank .account) a e)
 
-  pub found-nowhere : (a i : ℕ) → n ≤ i → find-from i a (drop i (accounts (take n table))) ≡ None
+  pub found-later : (a i : ℕ) → i < min n (length table) → (getD table i blank .account ≡ a → ⊥) → find-from i a (drop i (accounts (take n table))) ≡ find-from (i + 1) a (drop (i + 1) (accounts (take n table)))
+  found-later a i h e = next a i h ∙ cond-false (eqb (getD table i blank .account) a) (Some i) (find-from (i + 1) a (drop (i + 1) (accounts (take n table)))) (ne-eqb (getD table i blank .account) a e)
+
+  pub found-nowhere : (a i : ℕ) → min n (length table) ≤ i → find-from i a (drop i (accounts (take n table))) ≡ None
   found-nowhere a i h = let m = records-length in find-end a i (take n table) (omega arith)
 
   pub proper-added : (r : Record) → n < length table → Proper (take n table) (min 4096 (length table)) → takes (take n table) (min 4096 (length table)) r ≡ true → Proper (take (n + 1) (set table n r)) (min 4096 (length (set table n r)))

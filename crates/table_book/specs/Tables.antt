@@ -5,9 +5,16 @@ use mathlib.Core.Bool.{Bool, cond}
 use mathlib.Core.List.{List}
 use mathlib.Core.Path.{_≡_}
 use lib.ListN.{length, set, take}
+use Rattle.accounts.specs.declared.record.Size.the-variants.{Small}
+use Rattle.accounts.specs.declared.record.Kind.the-variants.{Member}
+use Rattle.accounts.specs.declared.record.State.the-variants.{Open}
 use Rattle.accounts.specs.declared.record.Record.{Record}
 use Rattle.accounts.specs.Books.{Proper}
 use Rattle.table_book.specs.declared.TableBook.{TableBook}
+
+-- what a read past a table's end would stand for
+abbrev pub blank : Record
+blank = record { account = 0; percentage = 0; savings = 0; class = 0; size = Small; kind = Member; state = Open; held = 0; last = 0 }
 
 -- the whole table, places past the count included
 abbrev pub table-of : TableBook → List Record

@@ -1,12 +1,14 @@
 // An account book in a table of records that the caller lends.
 ghost use denote.Ref.{now, name};
-ghost use lib.ListN.{length, set};
-ghost use mathlib.Core.Bool.{cond};
-ghost use mathlib.Core.List.{List, [], _∷_};
+ghost use lib.ListN.{length, getD, set};
+ghost use mathlib.Core.Bool.{true, cond};
+ghost use mathlib.Core.List.{List, [], _∷_, _++_};
 ghost use mathlib.Core.Path.{_≡_};
-ghost use Prim.Native.Nat.{ℕ, min};
-ghost use Rattle.accounts.specs.Books.{takes, added, suits, replaced, Left};
-ghost use Rattle.table_book.specs.Tables.{table-of, count-of, loan-of, records-of, room-of, Sound, Added, Replaced};
+ghost use Prim.Native.Nat.{ℕ, _<_, min};
+ghost use Rattle.std.specs.Finite.{nth};
+ghost use Rattle.std.specs.Options.{isSome};
+ghost use Rattle.accounts.specs.Books.{accounts, find, present, takes, added, suits, replaced, Left};
+ghost use Rattle.table_book.specs.Tables.{blank, table-of, count-of, loan-of, records-of, room-of, Sound, Added, Replaced};
 use accounts::book::AccountBook;
 use accounts::record::Record;
 
@@ -30,18 +32,67 @@ impl<'a> TableBook<'a> {
         TableBook { table, count: 0 }
     }
 
-    // How many records the table holds; a count past its end counts no further.
+    // How many places of the table may be used.
+    fn places(&self) -> usize
+        ensures { λ r. ⌜ r ≡ room-of (now (self .entry)) ⌝ }
+    {
+        self.table.len().min(MOST_RECORDS)
+    }
+
+    // How many places hold records; a count past the table's end counts no further.
     fn end(&self) -> usize
         ensures { λ r. ⌜ r ≡ min (count-of (now (self .entry))) (length (table-of (now (self .entry)))) ⌝ }
     {
         self.count.min(self.table.len())
     }
 
-    // How many places of the table may be used.
-    fn places(&self) -> usize
-        ensures { λ r. ⌜ r ≡ room-of (now (self .entry)) ⌝ }
+    fn record(&self, place: usize) -> Option<Record>
+        ensures { λ r. ⌜ r ≡ nth (records-of (now (self .entry))) place ⌝ }
     {
-        self.table.len().min(MOST_RECORDS)
+        if place >= self.end() {
+            return None;
+        }
+        Some(self.table[place])
+    }
+
+    fn account(&self, place: usize) -> u64
+        requires { ⌜ place < length (table-of (now self)) ⌝ }
+        ensures { λ r. ⌜ r ≡ getD (table-of (now (self .entry))) place blank .account ⌝ }
+    {
+        let record = self.table[place];
+        record.account
+    }
+
+    fn place(&self, account: u64) -> Option<usize>
+        ensures found { λ r. ⌜ r ≡ find account (accounts (records-of (now (self .entry)))) ⌝ }
+        ensures test { λ r. ⌜ isSome r ≡ present account (accounts (records-of (now (self .entry)))) ⌝ }
+    {
+        for i in 0..self.end() {
+            if self.account(i) == account {
+                return Some(i);
+            }
+        }
+        None
+    }
+
+    // Puts a record after the last.
+    fn push(&mut self, new: Record)
+        requires { ⌜ count-of (now self) < room-of (now self) ⌝ }
+        ensures table { λ _. ⌜ Added true (now (self .exit)) (now (self .entry)) new ⌝ }
+        ensures after { λ _. ⌜ (Sound (now (self .entry)) → takes (records-of (now (self .entry))) (room-of (now (self .entry))) new ≡ true → Left (Sound (now (self .exit))) (records-of (now (self .exit))) (records-of (now (self .entry)) ++ new ∷ []) (room-of (now (self .exit))) (room-of (now (self .entry))) [] [] (loan-of (now (self .exit)) ∷ []) (loan-of (now (self .entry)) ∷ [])) ⌝ }
+    {
+        self.table[self.count] = new;
+        self.count += 1;
+    }
+
+    // Puts a record at a place of the table; none past its end.
+    fn put(&mut self, place: usize, new: Record)
+        ensures table { λ _. ⌜ Replaced true (now (self .exit)) (now (self .entry)) place new ⌝ }
+        ensures after { λ _. ⌜ (Sound (now (self .entry)) → suits (records-of (now (self .entry))) place new ≡ true → Left (Sound (now (self .exit))) (records-of (now (self .exit))) (set (records-of (now (self .entry))) place new) (room-of (now (self .exit))) (room-of (now (self .entry))) [] [] (loan-of (now (self .exit)) ∷ []) (loan-of (now (self .entry)) ∷ [])) ⌝ }
+    {
+        if place < self.table.len() {
+            self.table[place] = new;
+        }
     }
 }
 
@@ -59,28 +110,19 @@ pub impl<'a> AccountBook for TableBook<'a> as TableAccountBook {
     ghost proper = { λ b s. s .proper };
 
     fn count(&self) -> usize {
-        self.count
+        self.count // as many of the first places
     }
 
     fn capacity(&self) -> usize {
-        self.places()
+        self.places() // however long the table
     }
 
     fn get(&self, place: usize) -> Option<Record> {
-        if place >= self.end() {
-            return None;
-        }
-        Some(self.table[place])
+        self.record(place)
     }
 
     fn search(&self, account: u64) -> Option<usize> {
-        for i in 0..self.end() {
-            let record = self.table[i];
-            if record.account == account {
-                return Some(i);
-            }
-        }
-        None
+        self.place(account)
     }
 
     fn add(&mut self, new: Record) -> bool
@@ -94,11 +136,10 @@ pub impl<'a> AccountBook for TableBook<'a> as TableAccountBook {
         if !new.in_range() {
             return false;
         }
-        if self.search(new.account).is_some() {
+        if self.place(new.account).is_some() {
             return false;
         }
-        self.table[self.count] = new;
-        self.count += 1;
+        self.push(new);
         true
     }
 
@@ -107,17 +148,16 @@ pub impl<'a> AccountBook for TableBook<'a> as TableAccountBook {
         ensures after { λ r. ⌜ (Sound (now (self .entry)) → Left (Sound (now (self .exit))) (records-of (now (self .exit))) (replaced r (records-of (now (self .entry))) place new) (room-of (now (self .exit))) (room-of (now (self .entry))) [] [] (loan-of (now (self .exit)) ∷ []) (loan-of (now (self .entry)) ∷ [])) ⌝ }
         ensures table { λ r. ⌜ Replaced r (now (self .exit)) (now (self .entry)) place new ⌝ }
     {
-        if place >= self.end() {
-            return false;
-        }
         if !new.in_range() {
             return false;
         }
-        let old = self.table[place];
+        let Some(old) = self.get(place) else {
+            return false;
+        };
         if old.account != new.account {
             return false;
         }
-        self.table[place] = new;
+        self.put(place, new);
         true
     }
 }
