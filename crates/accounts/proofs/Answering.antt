@@ -3,10 +3,10 @@ use Prim.Native.Nat.{ℕ, _≤_, _<_}
 use mathlib.Core.Path.{_≡_, refl, ap, sym, _∙_}
 use mathlib.Core.Bool.{Bool, true, false, not, _&&_}
 use mathlib.Core.List.{List}
-use native.Mathlib.Omega.{arith}
+use mathlib.Core.Logic.{⊎-elim}
 use lib.Dec.{eqb, ltb}
 use lib.ListN.{length}
-use Rattle.std.proofs.shelf.Tests.{and-from, and-left, and-right, lt-ltb, le-ltb, eq-eqb, ne-eqb}
+use Rattle.std.proofs.shelf.Tests.{and-from, and-parts, and-left, and-right, lt-ltb, le-ltb, ltb-true, eq-eqb, ne-eqb, both-ways, cases-lt}
 use Rattle.std.proofs.shelf.Maps.{nth-past}
 use Rattle.std.specs.Finite.{nth}
 use Rattle.std.specs.Options.{isSome}
@@ -41,3 +41,15 @@ suits-same rs i r old e h ok =
 
 pub takes-full : (rs : List Record) (room : ℕ) (r : Record) → room ≤ length rs → takes rs room r ≡ false
 takes-full rs room r h = and-left (ltb (length rs) room) (in-range r && not (present (r .account) (accounts rs))) (le-ltb (length rs) room h)
+
+-- what is known where a record is taken or suits
+pub takes-parts : (rs : List Record) (room : ℕ) (r : Record) → takes rs room r ≡ true → (length rs < room) × (in-range r ≡ true)
+takes-parts rs room r t =
+    let p = and-parts (ltb (length rs) room) (in-range r && not (present (r .account) (accounts rs))) t in
+    (ltb-true (length rs) room (p .0), and-parts (in-range r) (not (present (r .account) (accounts rs))) (p .1) .0)
+
+pub suits-parts : (rs : List Record) (i : ℕ) (r : Record) → suits rs i r ≡ true → (i < length rs) × (in-range r ≡ true)
+suits-parts rs i r t =
+    let p = and-parts (in-range r) (same-account (nth rs i) r) t in
+    let inside : i < length rs = ⊎-elim (λ h. h) (λ h. absurd (both-ways (suits rs i r) (suits-past rs i r h) t)) (cases-lt i (length rs)) in
+    (inside, p .0)

@@ -15,8 +15,8 @@ use Rattle.std.specs.declared.result.Result.the-variants.{Ok, Err}
 use Rattle.accounts.specs.Books.{accounts, distinct, Proper}
 use Rattle.image_book.specs.Images.{count-in, capacity-of, held}
 use Rattle.image_book.specs.Refusals.{told, lacks-room, start-refusal, unfit, first-unfit, seventh, open-refusal}
-use Rattle.image_book.specs.Reading.{Legible, opened-count, opened-room}
-use Rattle.image_book.specs.Holding.{image-of, records-of, room-of, Sound}
+use Rattle.image_book.specs.Reading.{Legible, opened-count, opened-room, Reads}
+use Rattle.image_book.specs.Holding.{image-of, records-of, room-of, Sound, Comes-back}
 use Rattle.image_book.specs.declared.book.ImageBook.{ImageBook}
 use Rattle.image_book.specs.declared.checks.ImageRefusal.{ImageRefusal}
 use Rattle.image_book.proofs.Places.{length-held, every-held, distinct-fit, legible-fit, fit-each, fit-none, none-fit}
@@ -133,7 +133,19 @@ module _ (bs : List ℕ) where
   proper-none = record { ranged = refl; apart = refl; fits = omega arith; bounded = omega arith }
 
   -- a book whose image is opened again comes back
-  pub comes-back : (n room : ℕ) → n ≡ opened-count bs → room ≡ opened-room bs → (b : ImageBook) → Sound b → image-of b ≡ bs → (held n bs ≡ records-of b) × (room ≡ room-of b)
+  pub comes-back : (n room : ℕ) → n ≡ opened-count bs → room ≡ opened-room bs → Comes-back bs n room
   comes-back n room a c b s e =
-      let k : n ≡ b .count = a ∙ (ap opened-count (sym e) ∙ sym (s .same-count)) in
-      (ap (λ m. held m bs) k ∙ ap (held (b .count)) (sym e), c ∙ (ap opened-room (sym e) ∙ sym (s .same-room)))
+      let k : b .count ≡ n = s .same-count ∙ (ap opened-count e ∙ sym a) in
+      (ap (held (b .count)) e ∙ ap (λ m. held m bs) k, s .same-room ∙ (ap opened-room e ∙ sym c))
+
+  pub reads-open : (n room : ℕ) → Open bs n room → Reads bs n room
+  reads-open n room o = record {
+      proper = proper-open bs n room o;
+      whole = length-held bs n (o .legible);
+      same-count = count-open bs n room o;
+      same-room = room-open bs n room o;
+    }
+
+  pub reads-none : true ≡ isSome (open-refusal bs) → Reads bs 0 0
+  unfolding held
+  reads-none h = record { proper = proper-none; whole = refl; same-count = count-none h; same-room = room-none h }

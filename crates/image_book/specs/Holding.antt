@@ -5,11 +5,10 @@ use mathlib.Core.Bool.{Bool, cond}
 use mathlib.Core.List.{List}
 use mathlib.Core.Path.{_≡_}
 use Rattle.accounts.specs.declared.record.Record.{Record}
-use Rattle.accounts.specs.Books.{Proper}
 use Rattle.record_codec.specs.Bytes.{le, written}
 use Rattle.record_codec.specs.Codec.{encoded}
 use Rattle.image_book.specs.Images.{start-of, held}
-use Rattle.image_book.specs.Reading.{opened-count, opened-room}
+use Rattle.image_book.specs.Reading.{Reads}
 use Rattle.image_book.specs.declared.book.ImageBook.{ImageBook}
 
 -- every byte of the image, those past the last record included
@@ -27,10 +26,12 @@ abbrev pub room-of : ImageBook → ℕ
 room-of b = b .room
 
 -- a proper book that its image, opened again, gives back
-pub record Sound (b : ImageBook) : Type 0 where
-  pub proper : Proper (records-of b) (room-of b)
-  pub same-count : b .count ≡ opened-count (image-of b)
-  pub same-room : room-of b ≡ opened-room (image-of b)
+abbrev pub Sound : ImageBook → Type 0
+Sound b = Reads (image-of b) (b .count) (room-of b)
+
+-- every book that these bytes keep has this list and this room
+abbrev pub Comes-back : List ℕ → ℕ → ℕ → Type 0
+Comes-back bs n room = (b : ImageBook) → Sound b → image-of b ≡ bs → (records-of b ≡ held n bs) × (room-of b ≡ room)
 
 -- what adding leaves: where it is accepted, the 36 bytes after the last record and the four of the count are those of the
 -- new record and the new count; every other byte stays

@@ -1,18 +1,21 @@
 // An account book in an image of bytes that the caller lends.
 ghost use denote.Ref.{now, name};
-ghost use mathlib.Core.Bool.{cond};
-ghost use mathlib.Core.List.{List, [], _∷_};
+ghost use lib.ListN.{set};
+ghost use mathlib.Core.Bool.{true, cond};
+ghost use mathlib.Core.List.{List, [], _∷_, _++_};
 ghost use mathlib.Core.Path.{_≡_};
-ghost use Prim.Native.Nat.{ℕ, _<_, min};
-ghost use Rattle.accounts.specs.Books.{takes, added, suits, replaced, Left};
+ghost use Prim.Native.Nat.{ℕ, _<_, _≤_, min};
+ghost use Rattle.std.specs.Finite.{nth};
+ghost use Rattle.std.specs.Options.{isSome};
+ghost use Rattle.std.specs.Slices.{found};
+ghost use Rattle.accounts.specs.Books.{accounts, find, present, takes, added, suits, replaced, Left};
 ghost use Rattle.record_codec.specs.Bytes.{le, written};
 ghost use Rattle.record_codec.specs.Codec.{encoded};
-ghost use Rattle.image_book.specs.Images.{capacity-of, account-at};
+ghost use Rattle.image_book.specs.Images.{capacity-of};
 ghost use Rattle.image_book.specs.Reading.{opened-count, opened-room, started, started-room};
-ghost use Rattle.image_book.specs.Holding.{image-of, loan-of, records-of, room-of, Sound, Added, Replaced};
-ghost use Rattle.image_book.specs.declared.book.ImageBook.{ImageBook};
-use crate::checks::check_open;
-use crate::checks::check_start;
+ghost use Rattle.image_book.specs.Holding.{image-of, loan-of, records-of, room-of, Sound, Comes-back, Added, Replaced};
+use crate::making::begin;
+use crate::making::measure;
 use crate::layout;
 use accounts::book::AccountBook;
 use accounts::record::Record;
@@ -36,20 +39,8 @@ impl<'a> ImageBook<'a> {
         ensures loan { λ r. ⌜ loan-of r ≡ name (image .entry) ⌝ }
         ensures sound { λ r. ⌜ Sound r ⌝ }
     {
-        if check_start(image).is_err() {
-            return ImageBook {
-                image,
-                count: 0,
-                room: 0,
-            };
-        }
-        let room = layout::capacity(image);
-        layout::put(image, 0, &four_bytes(0));
-        ImageBook {
-            image,
-            count: 0,
-            room,
-        }
+        let room = begin(image);
+        ImageBook { image, count: 0, room }
     }
 
     // The book that an image holds; an unfit image stays as it is, and makes a book of no room. A book whose image is opened
@@ -60,18 +51,18 @@ impl<'a> ImageBook<'a> {
         ensures room { λ r. ⌜ room-of r ≡ opened-room (now (image .entry)) ⌝ }
         ensures loan { λ r. ⌜ loan-of r ≡ name (image .entry) ⌝ }
         ensures sound { λ r. ⌜ Sound r ⌝ }
-        ensures again { λ r. ⌜ ((b : ImageBook) → Sound b → image-of b ≡ now (image .entry) → (records-of r ≡ records-of b) × (room-of r ≡ room-of b)) ⌝ }
+        ensures again { λ r. ⌜ Comes-back (now (image .entry)) (r .count) (room-of r) ⌝ }
     {
-        if check_open(image).is_err() {
-            return ImageBook {
-                image,
-                count: 0,
-                room: 0,
-            };
-        }
-        let count = layout::count(image);
-        let room = layout::capacity(image);
+        let (count, room) = measure(image);
         ImageBook { image, count, room }
+    }
+
+    // How many places may be written.
+    fn places(&self) -> usize
+        ensures bound { λ r. ⌜ r ≤ capacity-of (image-of (now (self .entry))) ⌝ }
+        ensures room { λ r. ⌜ (Sound (now (self .entry)) → r ≡ room-of (now (self .entry))) ⌝ }
+    {
+        self.room.min(layout::capacity(self.image))
     }
 
     // How many places are read; a count past the image's end counts no further.
@@ -81,19 +72,44 @@ impl<'a> ImageBook<'a> {
         self.count.min(layout::capacity(self.image))
     }
 
-    // How many places may be written.
-    fn places(&self) -> usize
-        ensures { λ r. ⌜ r ≡ min (room-of (now (self .entry))) (capacity-of (image-of (now (self .entry)))) ⌝ }
+    fn record(&self, place: usize) -> Option<Record>
+        ensures bound { λ r. ⌜ found r (λ x. place < capacity-of (image-of (now (self .entry)))) ⌝ }
+        ensures value { λ r. ⌜ (Sound (now (self .entry)) → r ≡ nth (records-of (now (self .entry))) place) ⌝ }
     {
-        self.room.min(layout::capacity(self.image))
+        if place >= self.end() {
+            return None;
+        }
+        layout::record_at(self.image, place)
     }
 
-    // The account number at a place.
-    fn account(&self, place: usize) -> u64
-        requires { ⌜ place < capacity-of (image-of (now self)) ⌝ }
-        ensures { λ r. ⌜ r ≡ account-at (image-of (now (self .entry))) place ⌝ }
+    fn place(&self, account: u64) -> Option<usize>
+        ensures found { λ r. ⌜ (Sound (now (self .entry)) → r ≡ find account (accounts (records-of (now (self .entry))))) ⌝ }
+        ensures test { λ r. ⌜ (Sound (now (self .entry)) → isSome r ≡ present account (accounts (records-of (now (self .entry))))) ⌝ }
     {
-        layout::account_at(self.image, place)
+        layout::place_of(self.image, self.end(), account)
+    }
+
+    // Puts a record after the last.
+    fn push(&mut self, new: Record)
+        requires { ⌜ now self .count < capacity-of (image-of (now self)) ⌝ }
+        ensures image { λ _. ⌜ Added true (now (self .exit)) (now (self .entry)) new ⌝ }
+        ensures after { λ _. ⌜ (Sound (now (self .entry)) → takes (records-of (now (self .entry))) (room-of (now (self .entry))) new ≡ true → Left (Sound (now (self .exit))) (records-of (now (self .exit))) (records-of (now (self .entry)) ++ new ∷ []) (room-of (now (self .exit))) (room-of (now (self .entry))) [] [] (loan-of (now (self .exit)) ∷ []) (loan-of (now (self .entry)) ∷ [])) ⌝ }
+    {
+        let place = self.count;
+        let at = layout::start(place);
+        layout::put(self.image, at, &encode(&new));
+        layout::put(self.image, 0, &four_bytes(place as u32 + 1));
+        self.count = place + 1;
+    }
+
+    // Puts a record at a place.
+    fn put(&mut self, place: usize, new: Record)
+        requires { ⌜ place < capacity-of (image-of (now self)) ⌝ }
+        ensures image { λ _. ⌜ Replaced true (now (self .exit)) (now (self .entry)) place new ⌝ }
+        ensures after { λ _. ⌜ (Sound (now (self .entry)) → suits (records-of (now (self .entry))) place new ≡ true → Left (Sound (now (self .exit))) (records-of (now (self .exit))) (set (records-of (now (self .entry))) place new) (room-of (now (self .exit))) (room-of (now (self .entry))) [] [] (loan-of (now (self .exit)) ∷ []) (loan-of (now (self .entry)) ∷ [])) ⌝ }
+    {
+        let at = layout::start(place);
+        layout::put(self.image, at, &encode(&new));
     }
 }
 
@@ -111,22 +127,19 @@ pub impl<'a> AccountBook for ImageBook<'a> as ImageAccountBook {
     ghost proper = { λ b s. s .proper };
 
     fn count(&self) -> usize {
-        self.count
+        self.count // as many of the first places
     }
 
     fn capacity(&self) -> usize {
-        self.room
+        self.room // none in an unfit image
     }
 
     fn get(&self, place: usize) -> Option<Record> {
-        if place >= self.end() {
-            return None;
-        }
-        layout::record_at(self.image, place)
+        self.record(place) // nothing past the end
     }
 
     fn search(&self, account: u64) -> Option<usize> {
-        layout::place_of(self.image, self.end(), account)
+        self.place(account)
     }
 
     fn add(&mut self, new: Record) -> bool
@@ -140,14 +153,10 @@ pub impl<'a> AccountBook for ImageBook<'a> as ImageAccountBook {
         if !new.in_range() {
             return false;
         }
-        if self.search(new.account).is_some() {
+        if self.place(new.account).is_some() {
             return false;
         }
-        let place = self.count;
-        let at = layout::start(place);
-        layout::put(self.image, at, &encode(&new));
-        layout::put(self.image, 0, &four_bytes(place as u32 + 1));
-        self.count = place + 1;
+        self.push(new);
         true
     }
 
@@ -156,17 +165,16 @@ pub impl<'a> AccountBook for ImageBook<'a> as ImageAccountBook {
         ensures after { λ r. ⌜ (Sound (now (self .entry)) → Left (Sound (now (self .exit))) (records-of (now (self .exit))) (replaced r (records-of (now (self .entry))) place new) (room-of (now (self .exit))) (room-of (now (self .entry))) [] [] (loan-of (now (self .exit)) ∷ []) (loan-of (now (self .entry)) ∷ [])) ⌝ }
         ensures image { λ r. ⌜ Replaced r (now (self .exit)) (now (self .entry)) place new ⌝ }
     {
-        if place >= self.end() {
-            return false;
-        }
         if !new.in_range() {
             return false;
         }
-        if self.account(place) != new.account {
+        let Some(old) = self.record(place) else {
+            return false;
+        };
+        if old.account != new.account {
             return false;
         }
-        let at = layout::start(place);
-        layout::put(self.image, at, &encode(&new));
+        self.put(place, new);
         true
     }
 }

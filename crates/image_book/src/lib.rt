@@ -2,3 +2,4 @@
 pub mod book;
 pub mod checks;
 mod layout;
+mod making;
