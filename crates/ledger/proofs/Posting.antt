@@ -29,6 +29,11 @@ billed-in-range period used r h k = grind (arith, tells)
 pub ended-in-range : (period : ℕ) (r : Record) → period ≤ 1200 → in-range r ≡ true → in-range (ended period r) ≡ true
 ended-in-range period r h k = grind (arith, tells)
 
+-- the same record by another name
+pub left-at : {S : Type 0} {rs rs₀ : List Record} {answer : Bool} {i : ℕ} {x y : Record} {room room₀ : ℕ} {side side₀ loans loans₀ : List ℕ} → x ≡ y → Left S rs (replaced answer rs₀ i x) room room₀ side side₀ loans loans₀ → Left S rs (replaced answer rs₀ i y) room room₀ side side₀ loans loans₀
+left-at {S} {rs} {rs₀} {answer} {i} {x} {y} {room} {room₀} {side} {side₀} {loans} {loans₀} e h =
+    subst (λ z. Left S rs (replaced answer rs₀ i z) room room₀ side side₀ loans loans₀) e h
+
 module _ (worth : ℕ → ℕ → ℕ) (s : State) (applied fees account cents : ℕ) (x : Accepted) where
   -- what a bill leaves and answers
   abbrev pub leaves : ℕ → ℕ → List Record → posting.Posting → Done → Outcome

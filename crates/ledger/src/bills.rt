@@ -5,6 +5,7 @@ ghost use Prim.Native.Nat.{_+_, _*_, _≤_};
 ghost use Rattle.accounts.specs.Ranges.{in-range};
 ghost use Rattle.std.specs.Vec.{made};
 ghost use Rattle.ledger.specs.Accepting.{Judged, Limited};
+ghost use Rattle.ledger.specs.Records.{billed, ended};
 ghost use Rattle.ledger.specs.Rules.{counted, net-credit};
 ghost use Rattle.ledger.specs.Steps.{posting};
 use super::call::Posting;
@@ -102,4 +103,29 @@ pub(crate) fn judge_bill<M: CreditMethod, B: AccountBook>(
         holder,
         posting,
     })
+}
+
+// A record after a bill in a period that used some of its units.
+pub(crate) fn after_bill(holder: Record, period: u32, used: u64) -> Record
+    requires { ⌜ used ≤ holder .held ⌝ }
+    ensures { λ r. ⌜ r ≡ billed period used holder ⌝ }
+{
+    Record {
+        held: holder.held - used,
+        last: period,
+        ..holder
+    }
+}
+
+// A record after its final bill: nothing held, no percentage, closed.
+pub(crate) fn after_final_bill(holder: Record, period: u32) -> Record
+    ensures { λ r. ⌜ r ≡ ended period holder ⌝ }
+{
+    Record {
+        percentage: 0,
+        state: State::Closed,
+        held: 0,
+        last: period,
+        ..holder
+    }
 }

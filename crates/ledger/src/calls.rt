@@ -5,6 +5,8 @@ ghost use mathlib.Core.List.{[]};
 ghost use mathlib.Core.Path.{_≡_};
 ghost use Rattle.ledger.specs.Steps.{judge-open, open-answer, open-leaves, opened, step};
 ghost use Rattle.ledger.specs.Views.{Kept, outcome, view};
+use super::bills::after_bill;
+use super::bills::after_final_bill;
 use super::bills::counted_credit;
 use super::bills::judge_bill;
 use super::call::Call;
@@ -14,8 +16,6 @@ use super::call::Settlement;
 use super::ledger::Ledger;
 use super::phase::Phase;
 use accounts::book::AccountBook;
-use accounts::record::Record;
-use accounts::record::State;
 use crediting::method::CreditMethod;
 
 impl Ledger {
@@ -101,14 +101,7 @@ impl Ledger {
                 let bill = judge_bill(book, method, period, *applied, *account, *cents)?;
                 *applied += counted_credit(bill.holder.kind, bill.posting.applied);
                 *fees += bill.posting.fee;
-                let _ = book.replace(
-                    bill.place,
-                    Record {
-                        held: bill.holder.held - bill.posting.used,
-                        last: period,
-                        ..bill.holder
-                    },
-                );
+                let _ = book.replace(bill.place, after_bill(bill.holder, period, bill.posting.used));
                 Ok(Done::Billed(bill.posting))
             }
             (
@@ -124,16 +117,7 @@ impl Ledger {
                 *applied += counted_credit(bill.holder.kind, bill.posting.applied);
                 *fees += bill.posting.fee;
                 let forfeited = bill.holder.held - bill.posting.used;
-                let _ = book.replace(
-                    bill.place,
-                    Record {
-                        percentage: 0,
-                        state: State::Closed,
-                        held: 0,
-                        last: period,
-                        ..bill.holder
-                    },
-                );
+                let _ = book.replace(bill.place, after_final_bill(bill.holder, period));
                 Ok(Done::FinallyBilled {
                     posting: bill.posting,
                     forfeited,
