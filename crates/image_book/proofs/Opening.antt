@@ -140,11 +140,11 @@ module _ (bs : List ℕ) where
 
   pub reads-open : (n room : ℕ) → Open bs n room → Reads bs n room
   reads-open n room o = record {
-      proper = proper-open bs n room o;
-      whole = length-held bs n (o .legible);
-      same-count = count-open bs n room o;
-      same-room = room-open bs n room o;
-    }
+    proper = proper-open bs n room o;
+    whole = length-held bs n (o .legible);
+    same-count = count-open bs n room o;
+    same-room = room-open bs n room o;
+  }
 
   pub reads-none : true ≡ isSome (open-refusal bs) → Reads bs 0 0
   unfolding held

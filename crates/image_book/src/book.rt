@@ -1,7 +1,7 @@
 // An account book in an image of bytes that the caller lends.
 ghost use denote.Ref.{now, name};
 ghost use lib.ListN.{set};
-ghost use mathlib.Core.Bool.{true, cond};
+ghost use mathlib.Core.Bool.{true};
 ghost use mathlib.Core.List.{List, [], _∷_, _++_};
 ghost use mathlib.Core.Path.{_≡_};
 ghost use Prim.Native.Nat.{ℕ, _<_, _≤_, min};
@@ -9,14 +9,12 @@ ghost use Rattle.std.specs.Finite.{nth};
 ghost use Rattle.std.specs.Options.{isSome};
 ghost use Rattle.std.specs.Slices.{found};
 ghost use Rattle.accounts.specs.Books.{accounts, find, present, takes, added, suits, replaced, Left};
-ghost use Rattle.record_codec.specs.Bytes.{le, written};
-ghost use Rattle.record_codec.specs.Codec.{encoded};
 ghost use Rattle.image_book.specs.Images.{capacity-of};
 ghost use Rattle.image_book.specs.Reading.{opened-count, opened-room, started, started-room};
 ghost use Rattle.image_book.specs.Holding.{image-of, loan-of, records-of, room-of, Sound, Comes-back, Added, Replaced};
+use crate::layout;
 use crate::making::begin;
 use crate::making::measure;
-use crate::layout;
 use accounts::book::AccountBook;
 use accounts::record::Record;
 use record_codec::codec::encode;
@@ -40,7 +38,11 @@ impl<'a> ImageBook<'a> {
         ensures sound { λ r. ⌜ Sound r ⌝ }
     {
         let room = begin(image);
-        ImageBook { image, count: 0, room }
+        ImageBook {
+            image,
+            count: 0,
+            room,
+        }
     }
 
     // The book that an image holds; an unfit image stays as it is, and makes a book of no room. A book whose image is opened
@@ -177,14 +179,4 @@ pub impl<'a> AccountBook for ImageBook<'a> as ImageAccountBook {
         self.put(place, new);
         true
     }
-}
-
-// Starts a book in an image with a first record, and lets the book go: the record's bytes and the count 1 are left in the
-// image, or, where the record is out of range or the image has no room, the image is as starting left it.
-pub fn enter_first(image: &mut [u8], first: Record) -> bool
-    ensures answer { λ r. ⌜ r ≡ takes [] (started-room (now (image .entry))) first ⌝ }
-    ensures image { λ r. ⌜ now (image .exit) ≡ cond r (written 0 (le 4 1) (written 4 (encoded first) (started (now (image .entry))))) (started (now (image .entry))) ⌝ }
-{
-    let mut book = ImageBook::start(image);
-    book.add(first)
 }

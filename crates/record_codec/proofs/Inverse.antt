@@ -22,7 +22,7 @@ use Rattle.accounts.specs.declared.record.State.the-variants.{Open, Closed}
 use Rattle.accounts.specs.declared.record.Record.{Record}
 use Rattle.accounts.specs.Ranges.{in-range}
 use Rattle.record_codec.specs.Bytes.{le, worth, part}
-use Rattle.record_codec.specs.Codec.{size-letter, size-of, kind-letter, kind-of, state-byte, state-of, encoded, ranged, marked, decoded}
+use Rattle.record_codec.specs.Codec.{size-letter, size-of, kind-letter, kind-of, state-byte, state-of, encoded, ranged, marked, fields-in, framed, decoded}
 use Rattle.record_codec.proofs.Worth.{worth-le, le-worth}
 
 -- that bytes hold a record, field by field; its numbers may be out of range
@@ -53,7 +53,7 @@ fields z k s bs = record {
 }
 
 pub decoded-holds : (bs : List ℕ) (r : Record) → Holds bs r → decoded bs ≡ ranged r
-unfolding decoded
+unfolding fields-in
 decoded-holds bs r h =
     let t = and-from (eqb (length bs) 36) (eqb (worth (part 30 6 bs)) 0) (eq-eqb (length bs) 36 (h .bytes)) (eq-eqb (worth (part 30 6 bs)) 0 (h .filler)) in
     let z = h .size in
@@ -161,7 +161,7 @@ module _ (bs : List ℕ) (r : Record) (n : length bs ≡ 36) (w : worth (part 30
   from-marked (Some z) (Some k) (Some s) ez ek es e = from-ranged z k s ez ek es e
 
 pub holds-decoded : (bs : List ℕ) (r : Record) → decoded bs ≡ Some r → Holds bs r
-unfolding decoded
+unfolding fields-in
 holds-decoded bs r =
     cond-both (eqb (length bs) 36 && eqb (worth (part 30 6 bs)) 0) (marked (size-of (getD bs 15 0)) (kind-of (getD bs 16 0)) (state-of (getD bs 17 0)) bs) None (λ o. o ≡ Some r → Holds bs r)
     (λ t e.

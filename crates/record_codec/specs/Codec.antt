@@ -1,6 +1,6 @@
 -- A record as 36 bytes.
 use Prim.Native.Nat.{ℕ}
-use mathlib.Core.Bool.{cond, _&&_}
+use mathlib.Core.Bool.{Bool, cond, _&&_}
 use mathlib.Core.List.{List, [], _∷_, _++_}
 use lib.Dec.{eqb}
 use lib.ListN.{length, getD, replicate}
@@ -70,9 +70,13 @@ marked (Some z) (Some k) (Some s) bs =
       last = worth (part 26 4 bs);
     }
 
+unfoldable pub fields-in : List ℕ → Option Record
+fields-in bs = marked (size-of (getD bs 15 0)) (kind-of (getD bs 16 0)) (state-of (getD bs 17 0)) bs
+
+-- 36 bytes, of which the last six are 0
+abbrev pub framed : List ℕ → Bool
+framed bs = eqb (length bs) 36 && eqb (worth (part 30 6 bs)) 0
+
 -- nothing where there are not 36 bytes, a filler byte is not 0, a mark is unknown or a number is out of range
-unfoldable pub decoded : List ℕ → Option Record
-decoded bs =
-    cond (eqb (length bs) 36 && eqb (worth (part 30 6 bs)) 0)
-    (marked (size-of (getD bs 15 0)) (kind-of (getD bs 16 0)) (state-of (getD bs 17 0)) bs)
-    None
+abbrev pub decoded : List ℕ → Option Record
+decoded bs = cond (framed bs) (fields-in bs) None

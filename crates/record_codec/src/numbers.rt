@@ -1,4 +1,5 @@
 // Numbers as bytes, the lowest byte first.
+ghost use lib.Dec.{eqb};
 ghost use lib.ListN.{length, take};
 ghost use mathlib.Core.Path.{_≡_};
 ghost use Prim.Native.Nat.{_+_, _*_, _^_, _<_, _≤_, min};
@@ -17,6 +18,14 @@ pub fn number(bytes: &[u8]) -> u64
     sum
 }
 
+// Whether up to eight bytes are all 0.
+pub(crate) fn blank(bytes: &[u8]) -> bool
+    requires { ⌜ length (now bytes) ≤ 8 ⌝ }
+    ensures { λ r. ⌜ r ≡ eqb (worth (now (bytes .entry))) 0 ⌝ }
+{
+    number(bytes) == 0
+}
+
 // Writes a number into so many bytes from a place on.
 pub(crate) fn put_number(bytes: &mut [u8], at: usize, width: usize, n: u64)
     requires { ⌜ at + width ≤ length (now bytes) ⌝ }
@@ -33,7 +42,14 @@ pub(crate) fn put_number(bytes: &mut [u8], at: usize, width: usize, n: u64)
 pub fn four_bytes(n: u32) -> [u8; 4]
     ensures { λ r. ⌜ r ≡ le 4 n ⌝ }
 {
+    low_four(u64::from(n))
+}
+
+// The four lowest bytes of a number.
+fn low_four(n: u64) -> [u8; 4]
+    ensures { λ r. ⌜ r ≡ le 4 n ⌝ }
+{
     let mut bytes = [0u8; 4];
-    put_number(&mut bytes, 0, 4, u64::from(n));
+    put_number(&mut bytes, 0, 4, n);
     bytes
 }

@@ -9,5 +9,5 @@ pub returns : need.returns
 returns c =
     let at = c .start-at .result in
     let w : at + 36 - at ≡ 36 = omega arith in
-    c .decode .ensures .value
+    c .decode .ensures
     ∙ (ap (λ n. decoded (take n (drop at (c .args .image .now)))) w ∙ ap (λ n. decoded (take 36 (drop n (c .args .image .now)))) (c .start-at .ensures))

@@ -26,16 +26,16 @@ returns c =
     record {
       image = record { image = e; count = refl; room = refl; loan = refl };
       after = λ s t.
-        let w = s .whole in
-        let q = s .proper .fits in
-        let p = suits-parts (records-of b) i r t in
-        let h : i < n = omega (arith, p .0) in
-        let o = open-of bs n (b .room) (s .same-count) (s .same-room) (omega arith) in
-        record {
-          stays = subst (λ x. Reads x n (b .room)) (sym e) (reads-open (with-record i r bs) n (b .room) (open-replaced bs n (b .room) o r (p .1) i h t));
-          list = ap (held n) e ∙ list-replaced bs n (b .room) o r (p .1) i h t;
-          same-room = refl;
-          same-side = refl;
-          same-loans = refl;
-        };
+          let w = s .whole in
+          let q = s .proper .fits in
+          let p = suits-parts (records-of b) i r t in
+          let h : i < n = omega (arith, p .0) in
+          let o = open-of bs n (b .room) (s .same-count) (s .same-room) (omega arith) in
+          record {
+            stays = subst (λ x. Reads x n (b .room)) (sym e) (reads-open (with-record i r bs) n (b .room) (open-replaced bs n (b .room) o r (p .1) i h t));
+            list = ap (held n) e ∙ list-replaced bs n (b .room) o r (p .1) i h t;
+            same-room = refl;
+            same-side = refl;
+            same-loans = refl;
+          };
     }

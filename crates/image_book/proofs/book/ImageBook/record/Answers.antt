@@ -17,19 +17,19 @@ anyway (Some x) p = p
 
 pub returns-then-place-end : need.returns-then-place-end
 returns-then-place-end c = record {
-    bound = search needs;
-    value = λ s.
+  bound = search needs;
+  value = λ s.
       let b = c .args .self .now in
       let l = legible-opened (b .image .now) (b .count) (s .same-count) in
       let n = s .whole in
       sym (nth-past (records-of b) (c .args .place) (omega (arith, l .1)));
-  }
+}
 
 pub returns : need.returns
 returns c = record {
-    bound = anyway (c .record-at .result) (omega arith);
-    value = λ s.
+  bound = anyway (c .record-at .result) (omega arith);
+  value = λ s.
       let b = c .args .self .now in
       let l = legible-opened (b .image .now) (b .count) (s .same-count) in
       c .record-at .ensures ∙ sym (nth-held (b .image .now) (b .count) (c .args .place) (l .0) (omega arith));
-  }
+}

@@ -1,8 +1,10 @@
-use mathlib.Core.Path.{_≡_, ap, _∙_}
+use mathlib.Core.Path.{_≡_, sym, ap, _∙_}
+use lib.ListN.{replicate}
+use Rattle.record_codec.specs.Bytes.{le, written}
 use Rattle.record_codec.specs.Codec.{encoded, decoded}
 use Rattle.record_codec.proofs.Inverse.{decoded-encoded}
-use Rattle.record_codec.proofs.Reading.{built}
-use Rattle.record_codec.proofs.codec.encode.Needs as need
+use Rattle.record_codec.proofs.Reading.{built, only-encoded}
+use Rattle.record_codec.proofs.codec.put_fields.Needs as need
 
 pub returns : need.returns
 returns c =
@@ -10,6 +12,10 @@ returns c =
     let e : c .put-number-5 .last .bytes ≡ encoded r =
     built r (c .from .result) (c .from-2 .result) (c .from-3 .result) (c .size-letter .result) (c .kind-letter .result) (c .state-byte .result)
     (c .put-number .last .bytes) (c .put-number-2 .last .bytes) (c .put-number-3 .last .bytes) (c .put-number-4 .last .bytes) (c .put-number-5 .last .bytes)
-    (c .put-number .ensures) (c .from .ensures) (c .put-number-2 .ensures) (c .from-2 .ensures) (c .put-number-3 .ensures)
+    (c .put-number .ensures ∙ ap (written 0 (le 8 (r .account))) (c .pre)) (c .from .ensures) (c .put-number-2 .ensures) (c .from-2 .ensures) (c .put-number-3 .ensures)
     (c .size-letter .ensures) (c .kind-letter .ensures) (c .state-byte .ensures) (c .put-number-4 .ensures) (c .from-3 .ensures) (c .put-number-5 .ensures) in
-    record { value = e; reads-back = λ h. ap decoded e ∙ decoded-encoded r h }
+    record {
+      value = e;
+      reads-back = λ h. ap decoded e ∙ decoded-encoded r h;
+      only = λ bs small d. only-encoded r bs small d ∙ sym e;
+    }
