@@ -29,11 +29,6 @@ billed-in-range period used r h k = grind (arith, tells)
 pub ended-in-range : (period : ℕ) (r : Record) → period ≤ 1200 → in-range r ≡ true → in-range (ended period r) ≡ true
 ended-in-range period r h k = grind (arith, tells)
 
--- the same record by another name
-pub left-at : {S : Type 0} {rs rs₀ : List Record} {answer : Bool} {i : ℕ} {x y : Record} {room room₀ : ℕ} {side side₀ loans loans₀ : List ℕ} → x ≡ y → Left S rs (replaced answer rs₀ i x) room room₀ side side₀ loans loans₀ → Left S rs (replaced answer rs₀ i y) room room₀ side side₀ loans loans₀
-left-at {S} {rs} {rs₀} {answer} {i} {x} {y} {room} {room₀} {side} {side₀} {loans} {loans₀} e h =
-    subst (λ z. Left S rs (replaced answer rs₀ i z) room room₀ side side₀ loans loans₀) e h
-
 module _ (worth : ℕ → ℕ → ℕ) (s : State) (applied fees account cents : ℕ) (x : Accepted) where
   -- what a bill leaves and answers
   abbrev pub leaves : ℕ → ℕ → List Record → posting.Posting → Done → Outcome
@@ -61,27 +56,30 @@ module _ (worth : ℕ → ℕ → ℕ) (s : State) (applied fees account cents :
       ∙ cond-true answer (set (s .records) (x .place) new) (s .records) (says ∙ w .fitting new whose k)
       ∙ w .putting new whose
 
-  module _ {S : Type 0} (rs : List Record) (answer : Bool) (room more : ℕ) (side side₀ loans loans₀ : List ℕ) where
-    pub bill-posted : Bills worth (s .closed + 1) applied account cents (s .records) x → s .closed + 1 ≤ 1200 → more ≡ counted (x .holder .kind) (x .posting .applied) → let new = billed (s .closed + 1) (x .posting .used) (x .holder) in (answer ≡ suits (s .records) (x .place) new → Left S rs (replaced answer (s .records) (x .place) new) room (s .room) side side₀ loans loans₀ → leaves more room rs (x .posting) (Billed (x .posting)) ≡ bill worth s applied fees account cents)
-    bill-posted b h m says l =
+  -- `new` is the record that the book was given
+  module _ {S : Type 0} (new : Record) (rs : List Record) (answer : Bool) (room more : ℕ) (side side₀ loans loans₀ : List ℕ) where
+    pub bill-posted : Bills worth (s .closed + 1) applied account cents (s .records) x → s .closed + 1 ≤ 1200 → more ≡ counted (x .holder .kind) (x .posting .applied) → new ≡ billed (s .closed + 1) (x .posting .used) (x .holder) → answer ≡ suits (s .records) (x .place) new → Left S rs (replaced answer (s .records) (x .place) new) room (s .room) side side₀ loans loans₀ → leaves more room rs (x .posting) (Billed (x .posting)) ≡ bill worth s applied fees account cents
+    bill-posted b h m is says l =
         let k = billed-in-range (s .closed + 1) (x .posting .used) (x .holder) h (b .place .ranged) in
         let p = x .posting in
-        let list = written (billed (s .closed + 1) (p .used) (x .holder)) rs answer room side side₀ loans loans₀ b refl k says l in
-        ap (λ n. leaves n room rs p (Billed p)) m
-        ∙ ap (λ n. leaves (counted (x .holder .kind) (p .applied)) n rs p (Billed p)) (l .same-room)
-        ∙ ap (λ ys. leaves (counted (x .holder .kind) (p .applied)) (s .room) ys p (Billed p)) list
+        let n = counted (x .holder .kind) (p .applied) in
+        let list = written new rs answer room side side₀ loans loans₀ b (ap (λ r. r .account) is) (ap in-range is ∙ k) says l ∙ ap (λ r. put r (s .records)) is in
+        ap (λ i. leaves i room rs p (Billed p)) m
+        ∙ ap (λ i. leaves n i rs p (Billed p)) (l .same-room)
+        ∙ ap (λ ys. leaves n (s .room) ys p (Billed p)) list
         ∙ ap (λ q. leaves (counted (x .holder .kind) (q .applied)) (s .room) (put (billed (s .closed + 1) (q .used) (x .holder)) (s .records)) q (Billed q)) (b .posted)
         ∙ sym (ap (bill-judged worth s applied fees cents) (b .judged))
 
-    pub final-posted : Bills worth (s .closed + 1) applied account cents (s .records) x → s .closed + 1 ≤ 1200 → more ≡ counted (x .holder .kind) (x .posting .applied) → let new = ended (s .closed + 1) (x .holder) in (answer ≡ suits (s .records) (x .place) new → Left S rs (replaced answer (s .records) (x .place) new) room (s .room) side side₀ loans loans₀ → leaves more room rs (x .posting) (FinallyBilled (x .posting) (x .holder .held - x .posting .used)) ≡ final-bill worth s applied fees account cents)
-    final-posted b h m says l =
+    pub final-posted : Bills worth (s .closed + 1) applied account cents (s .records) x → s .closed + 1 ≤ 1200 → more ≡ counted (x .holder .kind) (x .posting .applied) → new ≡ ended (s .closed + 1) (x .holder) → answer ≡ suits (s .records) (x .place) new → Left S rs (replaced answer (s .records) (x .place) new) room (s .room) side side₀ loans loans₀ → leaves more room rs (x .posting) (FinallyBilled (x .posting) (x .holder .held - x .posting .used)) ≡ final-bill worth s applied fees account cents
+    final-posted b h m is says l =
         let k = ended-in-range (s .closed + 1) (x .holder) h (b .place .ranged) in
         let p = x .posting in
         let held = x .holder .held in
-        let new = ended (s .closed + 1) (x .holder) in
-        let list = written new rs answer room side side₀ loans loans₀ b refl k says l in
-        ap (λ n. leaves n room rs p (FinallyBilled p (held - p .used))) m
-        ∙ ap (λ n. leaves (counted (x .holder .kind) (p .applied)) n rs p (FinallyBilled p (held - p .used))) (l .same-room)
-        ∙ ap (λ ys. leaves (counted (x .holder .kind) (p .applied)) (s .room) ys p (FinallyBilled p (held - p .used))) list
-        ∙ ap (λ q. leaves (counted (x .holder .kind) (q .applied)) (s .room) (put new (s .records)) q (FinallyBilled q (held - q .used))) (b .posted)
+        let n = counted (x .holder .kind) (p .applied) in
+        let last = ended (s .closed + 1) (x .holder) in
+        let list = written new rs answer room side side₀ loans loans₀ b (ap (λ r. r .account) is) (ap in-range is ∙ k) says l ∙ ap (λ r. put r (s .records)) is in
+        ap (λ i. leaves i room rs p (FinallyBilled p (held - p .used))) m
+        ∙ ap (λ i. leaves n i rs p (FinallyBilled p (held - p .used))) (l .same-room)
+        ∙ ap (λ ys. leaves n (s .room) ys p (FinallyBilled p (held - p .used))) list
+        ∙ ap (λ q. leaves (counted (x .holder .kind) (q .applied)) (s .room) (put last (s .records)) q (FinallyBilled q (held - q .used))) (b .posted)
         ∙ sym (ap (final-judged worth s applied fees cents) (b .judged))

@@ -101,7 +101,10 @@ impl Ledger {
                 let bill = judge_bill(book, method, period, *applied, *account, *cents)?;
                 *applied += counted_credit(bill.holder.kind, bill.posting.applied);
                 *fees += bill.posting.fee;
-                let _ = book.replace(bill.place, after_bill(bill.holder, period, bill.posting.used));
+                let _ = book.replace(
+                    bill.place,
+                    after_bill(bill.holder, period, bill.posting.used),
+                );
                 Ok(Done::Billed(bill.posting))
             }
             (
