@@ -45,7 +45,7 @@ struct Patch {
     expected: Told,
 }
 
-fn patch(name: &'static str, at: usize, byte: u8, number: u8, place: usize) -> Patch {
+fn bad(name: &'static str, at: usize, byte: u8, number: u8, place: usize) -> Patch {
     Patch {
         name,
         at,
@@ -65,31 +65,31 @@ fn good(name: &'static str, at: usize, byte: u8) -> Patch {
 
 fn pairs() -> [Patch; 10] {
     [
-        patch("no line", 0, 0, 2, 0),
+        bad("no line", 0, 0, 2, 0),
         good("2 lines", 0, 2),
-        patch("3 lines", 0, 3, 4, 0),
-        patch("first line at 13", 2, 13, 4, 0),
+        bad("3 lines", 0, 3, 4, 0),
+        bad("first line at 13", 2, 13, 4, 0),
         good("first line at 14", 2, 14),
-        patch("first line at 15", 2, 15, 4, 1),
-        patch("first line of 29 bytes", 6, 29, 4, 0),
-        patch("second line at 43", 8, 43, 4, 1),
-        patch("second line at 45", 8, 45, 4, 1),
-        patch("second line of 31 bytes", 12, 31, 4, 1),
+        bad("first line at 15", 2, 15, 4, 1),
+        bad("first line of 29 bytes", 6, 29, 4, 0),
+        bad("second line at 43", 8, 43, 4, 1),
+        bad("second line at 45", 8, 45, 4, 1),
+        bad("second line of 31 bytes", 12, 31, 4, 1),
     ]
 }
 
 fn fields() -> [Patch; 10] {
     [
-        patch("byte below the digits", 14, b'/', 5, 0),
+        bad("byte below the digits", 14, b'/', 5, 0),
         good("digit 0", 14, b'0'),
         good("digit 9", 14, b'9'),
-        patch("byte above the digits", 14, b':', 5, 0),
-        patch("no space", 25, b'.', 5, 0),
-        patch("last digit", 39, b'x', 5, 0),
+        bad("byte above the digits", 14, b':', 5, 0),
+        bad("no space", 25, b'.', 5, 0),
+        bad("last digit", 39, b'x', 5, 0),
         good("size S", 71, b'S'),
-        patch("size s", 71, b's', 5, 1),
+        bad("size s", 71, b's', 5, 1),
         good("kind M", 73, b'M'),
-        patch("kind m", 73, b'm', 5, 1),
+        bad("kind m", 73, b'm', 5, 1),
     ]
 }
 

@@ -5,12 +5,12 @@ use super::steps::Step;
 use super::steps::bill;
 use super::steps::declined;
 use super::steps::disburse;
+use super::steps::expects;
 use super::steps::open;
 use super::steps::perform;
 use super::steps::play;
 use super::steps::posted;
 use super::steps::settled;
-use super::steps::step;
 use super::told::Told;
 use super::told::show;
 use accounts::book::AccountBook;
@@ -127,12 +127,12 @@ fn on_another(
     let opened = open(&mut ledger, &own, 1, false);
     show(rt, group, "the ledger opens", Told::Accepted, opened)?;
     let banked = [
-        step(
+        expects(
             "reading of 5 with no account",
             Act::Read(5),
             Told::Amount(1),
         ),
-        step("close", Act::Close, settled(0, 0, 0, 0)),
+        expects("close", Act::Close, settled(0, 0, 0, 0)),
     ];
     play(rt, group, &mut ledger, &mut own, &banked)?;
     let mut table = [BLANK; 2];
@@ -144,17 +144,17 @@ fn on_another(
 
 fn reading_steps(accepted: bool) -> [Step; 1] {
     if accepted {
-        [step("reading of 1", Act::Read(1), Told::Amount(2))]
+        [expects("reading of 1", Act::Read(1), Told::Amount(2))]
     } else {
-        [step("reading of 1", Act::Read(1), declined(27))]
+        [expects("reading of 1", Act::Read(1), declined(27))]
     }
 }
 
 fn disbursements() -> [Step; 3] {
     [
-        step("2 units", disburse(1, 2), declined(27)),
-        step("6 units", disburse(1, 6), declined(26)),
-        step("1 unit", disburse(1, 1), Told::Amount(4)),
+        expects("2 units", disburse(1, 2), declined(27)),
+        expects("6 units", disburse(1, 6), declined(26)),
+        expects("1 unit", disburse(1, 1), Told::Amount(4)),
     ]
 }
 

@@ -7,11 +7,11 @@ use super::steps::bill;
 use super::steps::declined;
 use super::steps::declined_at;
 use super::steps::ended;
+use super::steps::expects;
 use super::steps::line;
 use super::steps::one;
 use super::steps::posted;
 use super::steps::settled;
-use super::steps::step;
 use super::steps::three;
 use super::steps::two;
 use super::told::Told;
@@ -41,13 +41,13 @@ fn rated_last_bill(rate: u32, cents: u64) -> Act {
 // turned back into kilowatt-hours, 5 would be left, and one of the 9 would have vanished. Used and forfeited are 9.
 fn units_stay() -> [Step; 7] {
     [
-        step("all to account 1", one(line(1, 100_000)), Told::Amount(1)),
-        step("reading of 9", Act::Read(9), Told::Amount(1)),
-        step("a bill of a cent", rated_bill(4_000, 1), posted(1, 3, 0, 1)),
-        step("left", Act::Held { account: 1 }, Told::Amount(6)),
-        step("close", Act::Close, settled(1, 1, 0, 1)),
-        step("reading of none", Act::Read(0), Told::Amount(2)),
-        step(
+        expects("all to account 1", one(line(1, 100_000)), Told::Amount(1)),
+        expects("reading of 9", Act::Read(9), Told::Amount(1)),
+        expects("a bill of a cent", rated_bill(4_000, 1), posted(1, 3, 0, 1)),
+        expects("left", Act::Held { account: 1 }, Told::Amount(6)),
+        expects("close", Act::Close, settled(1, 1, 0, 1)),
+        expects("reading of none", Act::Read(0), Told::Amount(2)),
+        expects(
             "final bill",
             rated_last_bill(4_000, 900),
             ended(2, 5, 0, 2, 1),
@@ -63,19 +63,19 @@ fn cents_stay() -> [Step; 5] {
         ..line(2, 50_000)
     };
     [
-        step(
+        expects(
             "half and half",
             two(line(1, 50_000), thrifty),
             Told::Amount(2),
         ),
-        step("reading of 14910", Act::Read(14_910), Told::Amount(1)),
-        step(
+        expects("reading of 14910", Act::Read(14_910), Told::Amount(1)),
+        expects(
             "savings of 10 percent",
             bill(1, 7_455),
             posted(7_455, 7_455, 745, 6_710),
         ),
-        step("savings of 98 percent", bill(2, 51), posted(51, 51, 49, 2)),
-        step("close", Act::Close, settled(7_506, 6_712, 113, 6_599)),
+        expects("savings of 98 percent", bill(2, 51), posted(51, 51, 49, 2)),
+        expects("close", Act::Close, settled(7_506, 6_712, 113, 6_599)),
     ]
 }
 
@@ -83,21 +83,21 @@ fn cents_stay() -> [Step; 5] {
 // three of 34 are 102 cents and a fee of two.
 fn fee_of_the_sum() -> [Step; 11] {
     [
-        step(
+        expects(
             "three accounts",
             three(line(1, 30_000), line(2, 30_000), line(3, 30_000)),
             Told::Amount(3),
         ),
-        step("reading", Act::Read(1_000), Told::Amount(1)),
-        step("33 cents", bill(1, 33), posted(33, 33, 3, 30)),
-        step("33 cents", bill(2, 33), posted(33, 33, 3, 30)),
-        step("33 cents", bill(3, 33), posted(33, 33, 3, 30)),
-        step("close", Act::Close, settled(99, 90, 1, 89)),
-        step("reading", Act::Read(0), Told::Amount(2)),
-        step("34 cents", bill(1, 34), posted(34, 34, 3, 31)),
-        step("34 cents", bill(2, 34), posted(34, 34, 3, 31)),
-        step("34 cents", bill(3, 34), posted(34, 34, 3, 31)),
-        step("close", Act::Close, settled(102, 93, 2, 91)),
+        expects("reading", Act::Read(1_000), Told::Amount(1)),
+        expects("33 cents", bill(1, 33), posted(33, 33, 3, 30)),
+        expects("33 cents", bill(2, 33), posted(33, 33, 3, 30)),
+        expects("33 cents", bill(3, 33), posted(33, 33, 3, 30)),
+        expects("close", Act::Close, settled(99, 90, 1, 89)),
+        expects("reading", Act::Read(0), Told::Amount(2)),
+        expects("34 cents", bill(1, 34), posted(34, 34, 3, 31)),
+        expects("34 cents", bill(2, 34), posted(34, 34, 3, 31)),
+        expects("34 cents", bill(3, 34), posted(34, 34, 3, 31)),
+        expects("close", Act::Close, settled(102, 93, 2, 91)),
     ]
 }
 
@@ -108,33 +108,33 @@ fn fee_of_the_credits() -> [Step; 6] {
         ..line(2, 50_000)
     };
     [
-        step(
+        expects(
             "member and anchor",
             two(line(1, 50_000), anchor),
             Told::Amount(2),
         ),
-        step("reading of 1362", Act::Read(1_362), Told::Amount(1)),
-        step(
+        expects("reading of 1362", Act::Read(1_362), Told::Amount(1)),
+        expects(
             "member",
             rated_bill(109_460, 20_000),
             posted(7_454, 681, 745, 6_709),
         ),
-        step("anchor", bill(2, 20_000), posted(681, 681, 681, 0)),
-        step("close", Act::Close, settled(7_454, 6_709, 112, 6_597)),
-        step("bank", Act::Bank, Told::Amount(0)),
+        expects("anchor", bill(2, 20_000), posted(681, 681, 681, 0)),
+        expects("close", Act::Close, settled(7_454, 6_709, 112, 6_597)),
+        expects("bank", Act::Bank, Told::Amount(0)),
     ]
 }
 
 fn half_cents() -> [Step; 8] {
     [
-        step("all to account 1", one(line(1, 100_000)), Told::Amount(1)),
-        step("reading", Act::Read(1_000), Told::Amount(1)),
-        step("33 cents", bill(1, 33), posted(33, 33, 3, 30)),
-        step("close of 33 cents", Act::Close, settled(33, 30, 0, 30)),
-        step("reading", Act::Read(0), Told::Amount(2)),
-        step("34 cents", bill(1, 34), posted(34, 34, 3, 31)),
-        step("close of 34 cents", Act::Close, settled(34, 31, 1, 30)),
-        step("left", Act::Held { account: 1 }, Told::Amount(933)),
+        expects("all to account 1", one(line(1, 100_000)), Told::Amount(1)),
+        expects("reading", Act::Read(1_000), Told::Amount(1)),
+        expects("33 cents", bill(1, 33), posted(33, 33, 3, 30)),
+        expects("close of 33 cents", Act::Close, settled(33, 30, 0, 30)),
+        expects("reading", Act::Read(0), Told::Amount(2)),
+        expects("34 cents", bill(1, 34), posted(34, 34, 3, 31)),
+        expects("close of 34 cents", Act::Close, settled(34, 31, 1, 30)),
+        expects("left", Act::Held { account: 1 }, Told::Amount(933)),
     ]
 }
 
@@ -145,31 +145,31 @@ fn nothing_of_a_refused_request() -> [Step; 9] {
         ..line(4, 1)
     };
     [
-        step("60 percent", one(line(1, 60_000)), Told::Amount(1)),
-        step(
+        expects("60 percent", one(line(1, 60_000)), Told::Amount(1)),
+        expects(
             "last line out of range",
             three(line(2, 1), line(1, 7), faulty),
             declined_at(13, 2),
         ),
-        step("records", Act::Records, Told::Amount(1)),
-        step(
+        expects("records", Act::Records, Told::Amount(1)),
+        expects(
             "percentage",
             Act::Percentage { account: 1 },
             Told::Amount(60_000),
         ),
-        step(
+        expects(
             "last line repeated",
             three(line(2, 1), line(1, 7), line(2, 1)),
             declined_at(14, 2),
         ),
-        step("records", Act::Records, Told::Amount(1)),
-        step(
+        expects("records", Act::Records, Told::Amount(1)),
+        expects(
             "percentages pass",
             three(line(2, 1), line(1, 7), line(3, 100_000)),
             declined(16),
         ),
-        step("records", Act::Records, Told::Amount(1)),
-        step(
+        expects("records", Act::Records, Told::Amount(1)),
+        expects(
             "percentage",
             Act::Percentage { account: 1 },
             Told::Amount(60_000),

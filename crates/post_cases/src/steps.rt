@@ -1,8 +1,8 @@
 // Steps of a case: calls of a ledger and looks at what they leave, each with what is expected.
 use super::told::Told;
+use super::told::answered;
 use super::told::refused;
 use super::told::show;
-use super::told::told;
 use accounts::book::AccountBook;
 use accounts::record::Kind;
 use accounts::record::Line;
@@ -78,7 +78,7 @@ pub struct Step {
     pub expected: Told,
 }
 
-pub fn step(name: &'static str, act: Act, expected: Told) -> Step {
+pub fn expects(name: &'static str, act: Act, expected: Told) -> Step {
     Step {
         name,
         act,
@@ -197,11 +197,11 @@ fn many(count: u64, heap: Global) -> Result<Vec<Line>, AllocError> {
 
 fn enrol<B: AccountBook>(ledger: &mut Ledger, book: &mut B, lines: Vec<Line>) -> Told {
     let call: Call<ValueStack> = Call::Enrol(lines);
-    told(ledger.perform(book, &call))
+    answered(ledger.perform(book, &call))
 }
 
 fn plain<B: AccountBook>(ledger: &mut Ledger, book: &mut B, call: Call<ValueStack>) -> Told {
-    told(ledger.perform(book, &call))
+    answered(ledger.perform(book, &call))
 }
 
 fn volumetric(rate: u32) -> Volumetric {
@@ -222,7 +222,7 @@ fn bill_by<M: CreditMethod + Drop, B: AccountBook>(
         account,
         cents,
     };
-    told(ledger.perform(book, &call))
+    answered(ledger.perform(book, &call))
 }
 
 fn last_bill_by<M: CreditMethod + Drop, B: AccountBook>(
@@ -237,7 +237,7 @@ fn last_bill_by<M: CreditMethod + Drop, B: AccountBook>(
         account,
         cents,
     };
-    told(ledger.perform(book, &call))
+    answered(ledger.perform(book, &call))
 }
 
 fn months<B: AccountBook>(ledger: &mut Ledger, book: &mut B, count: u32, units: u64) -> Told {

@@ -102,7 +102,7 @@ pub fn refused(why: Refusal) -> Told {
     }
 }
 
-pub fn told(answer: Result<Done, Refusal>) -> Told {
+pub fn answered(answer: Result<Done, Refusal>) -> Told {
     match answer {
         Err(why) => refused(why),
         Ok(Done::Enrolled { new }) => Told::Amount(new as u64),
