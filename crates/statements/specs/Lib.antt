@@ -1,0 +1,5 @@
+pub mod Words
+pub mod Numbers
+pub mod Keywords
+pub mod Fields
+pub mod Meanings
