@@ -6,7 +6,8 @@ ghost use Rattle.std.specs.Options.{mapped};
 ghost use Rattle.std.specs.Vec.{made};
 ghost use Rattle.std.specs.shelf.Lists.{leading};
 ghost use Rattle.statements.specs.Words.{is-space, in-run, words, first, rest};
-ghost use Rattle.statements.specs.Fields.{number-at, end-at};
+ghost use Rattle.statements.specs.Fields.{number-at, either-at, end-at};
+use crate::keyword::is;
 use crate::number::number;
 use crate::statement::Expected;
 use crate::statement::ParseError;
@@ -61,6 +62,23 @@ impl<'a> Reader<'a> {
             },
             None => Err(ParseError::Expected(what)),
         }
+    }
+
+    // One of two names, each with what it stands for.
+    pub fn either<T: Copy>(&mut self, what: Expected, name: &str, x: T, other: &str, y: T) -> Result<T, ParseError>
+        ensures value { λ r. ⌜ r ≡ either-at what (now (name .entry)) x (now (other .entry)) y (first (words (now (now (self .entry) .left)))) ⌝ }
+        ensures left { λ r. ⌜ words (now (now (self .exit) .left)) ≡ rest (words (now (now (self .entry) .left))) ⌝ }
+    {
+        let Some(word) = self.word() else {
+            return Err(ParseError::Expected(what));
+        };
+        if is(word, name) {
+            return Ok(x);
+        }
+        if is(word, other) {
+            return Ok(y);
+        }
+        Err(ParseError::Expected(what))
     }
 
     // That no word is left.
