@@ -1,2 +1,4 @@
 pub mod Cutting
 pub mod Gathering
+pub mod Listing
+pub mod Saying

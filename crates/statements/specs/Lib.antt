@@ -3,3 +3,4 @@ pub mod Numbers
 pub mod Keywords
 pub mod Fields
 pub mod Meanings
+pub mod Texts

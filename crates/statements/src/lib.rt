@@ -4,3 +4,4 @@ mod number;
 pub mod parse;
 mod reader;
 pub mod statement;
+pub mod write;

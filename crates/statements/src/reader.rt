@@ -6,7 +6,8 @@ ghost use Rattle.std.specs.Options.{mapped};
 ghost use Rattle.std.specs.Vec.{made};
 ghost use Rattle.std.specs.shelf.Lists.{leading};
 ghost use Rattle.statements.specs.Words.{is-space, in-run, words, first, rest};
-ghost use Rattle.statements.specs.Fields.{number-at, either-at, end-at};
+ghost use Rattle.statements.specs.Fields.{number-at, either-at, file-at, end-at};
+ghost use Rattle.statements.specs.Meanings.{Told};
 use crate::keyword::is;
 use crate::number::number;
 use crate::statement::Expected;
@@ -79,6 +80,20 @@ impl<'a> Reader<'a> {
             return Ok(y);
         }
         Err(ParseError::Expected(what))
+    }
+
+    // A word of text, for a file's name.
+    pub fn text(&mut self) -> Result<&'a str, ParseError>
+        ensures value { λ r. ⌜ Told now (file-at (first (words (now (now (self .entry) .left))))) r ⌝ }
+        ensures left { λ r. ⌜ words (now (now (self .exit) .left)) ≡ rest (words (now (now (self .entry) .left))) ⌝ }
+    {
+        let Some(word) = self.word() else {
+            return Err(ParseError::Expected(Expected::File));
+        };
+        match std::str::from_utf8(word) {
+            Ok(name) => Ok(name),
+            Err(_) => Err(ParseError::Expected(Expected::File)),
+        }
     }
 
     // That no word is left.
