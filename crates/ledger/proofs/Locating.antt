@@ -31,19 +31,23 @@ found-here : (x : Record) (rs : List Record) (a : ℕ) → eqb (x .account) a �
 found-here x rs a e =
     let same = eqb-true (x .account) a e in
     record {
-      found = x; at = refl; told = cond-true (eqb (x .account) a) (Some x) (record-of a rs) e; whose = same;
-      puts = λ new w. sym (cond-true (eqb (x .account) (new .account)) (new ∷ rs) (x ∷ put new rs) (eq-eqb (x .account) (new .account) (omega arith)))
+      found = x;
+      at = refl;
+      told = cond-true (eqb (x .account) a) (Some x) (record-of a rs) e;
+      whose = same;
+      puts = λ new w. sym (cond-true (eqb (x .account) (new .account)) (new ∷ rs) (x ∷ put new rs) (eq-eqb (x .account) (new .account) (omega arith)));
     }
 
 found-later : (x : Record) (rs : List Record) (a i : ℕ) → eqb (x .account) a ≡ false → Found rs a i → Found (x ∷ rs) a (suc i)
 found-later x rs a i e f =
     record {
-      found = f .found; at = f .at;
+      found = f .found;
+      at = f .at;
       told = cond-false (eqb (x .account) a) (Some x) (record-of a rs) e ∙ f .told;
       whose = f .whose;
       puts = λ new w.
-        ap (λ ys. x ∷ ys) (f .puts new w)
-        ∙ sym (cond-false (eqb (x .account) (new .account)) (new ∷ rs) (x ∷ put new rs) (subst (λ b. eqb (x .account) b ≡ false) (sym w) e))
+          ap (λ ys. x ∷ ys) (f .puts new w)
+          ∙ sym (cond-false (eqb (x .account) (new .account)) (new ∷ rs) (x ∷ put new rs) (subst (λ b. eqb (x .account) b ≡ false) (sym w) e));
     }
 
 found-from : (a j i : ℕ) (rs : List Record) → find-from j a (accounts rs) ≡ Some i → (j ≤ i) × Found rs a (i - j)
@@ -51,14 +55,14 @@ found-from a j i [] e = let z : _≡_ {A = ℕ} 0 1 = cc in absurd (omega arith)
 found-from a j i (x ∷ rs) e =
     ⊎-elim
     (λ (t : eqb (x .account) a ≡ true).
-      let same : Some j ≡ Some i = sym (cond-true (eqb (x .account) a) (Some j) (find-from (j + 1) a (accounts rs)) t) ∙ e in
-      let eq : j ≡ i = cc in
-      (omega arith, subst (Found (x ∷ rs) a) (omega arith) (found-here x rs a t)))
+    let same : Some j ≡ Some i = sym (cond-true (eqb (x .account) a) (Some j) (find-from (j + 1) a (accounts rs)) t) ∙ e in
+    let eq : j ≡ i = cc in
+    (omega arith, subst (Found (x ∷ rs) a) (omega arith) (found-here x rs a t)))
     (λ (f : eqb (x .account) a ≡ false).
-      let more : find-from (j + 1) a (accounts rs) ≡ Some i = sym (cond-false (eqb (x .account) a) (Some j) (find-from (j + 1) a (accounts rs)) f) ∙ e in
-      let ih = found-from a (j + 1) i rs more in
-      let le : j + 1 ≤ i = ih .0 in
-      (omega arith, subst (Found (x ∷ rs) a) (omega arith) (found-later x rs a (i - (j + 1)) f (ih .1))))
+    let more : find-from (j + 1) a (accounts rs) ≡ Some i = sym (cond-false (eqb (x .account) a) (Some j) (find-from (j + 1) a (accounts rs)) f) ∙ e in
+    let ih = found-from a (j + 1) i rs more in
+    let le : j + 1 ≤ i = ih .0 in
+    (omega arith, subst (Found (x ∷ rs) a) (omega arith) (found-later x rs a (i - (j + 1)) f (ih .1))))
     (cases-bool (eqb (x .account) a))
 
 found-at : (a i : ℕ) (rs : List Record) → find a (accounts rs) ≡ Some i → Found rs a i
@@ -75,7 +79,7 @@ located a i room rs r p e n =
       ranged = every-nth in-range rs i r (p .ranged) n;
       whose = ap (λ x. x .account) (sym same) ∙ f .whose;
       fitting = λ new w k. fits-there f new w k;
-      putting = λ new w. f .puts new w
+      putting = λ new w. f .puts new w;
     }
   where
     fits-there : Found rs a i → (new : Record) → new .account ≡ a → in-range new ≡ true → suits rs i new ≡ true
@@ -93,11 +97,11 @@ missing a j [] e = refl
 missing a j (x ∷ rs) e =
     ⊎-elim
     (λ (t : eqb (x .account) a ≡ true).
-      let same : Some j ≡ None = sym (cond-true (eqb (x .account) a) (Some j) (find-from (j + 1) a (accounts rs)) t) ∙ e in
-      let z : _≡_ {A = ℕ} 0 1 = cc in absurd (omega arith))
+    let same : Some j ≡ None = sym (cond-true (eqb (x .account) a) (Some j) (find-from (j + 1) a (accounts rs)) t) ∙ e in
+    let z : _≡_ {A = ℕ} 0 1 = cc in absurd (omega arith))
     (λ (f : eqb (x .account) a ≡ false).
-      cond-false (eqb (x .account) a) (Some x) (record-of a rs) f
-      ∙ missing a (j + 1) rs (sym (cond-false (eqb (x .account) a) (Some j) (find-from (j + 1) a (accounts rs)) f) ∙ e))
+    cond-false (eqb (x .account) a) (Some x) (record-of a rs) f
+    ∙ missing a (j + 1) rs (sym (cond-false (eqb (x .account) a) (Some j) (find-from (j + 1) a (accounts rs)) f) ∙ e))
     (cases-bool (eqb (x .account) a))
 
 -- what a book's `get` gives at a place that its search gave

@@ -59,7 +59,7 @@ module _ (f : Record → Record) where
         list = l .list ∙ cond-true answer (set ys i (f r)) ys yes′ ∙ set-over rs ys i r (h .list) e;
         same-room = l .same-room ∙ h .same-room;
         same-side = l .same-side ∙ h .same-side;
-        same-loans = l .same-loans ∙ h .same-loans
+        same-loans = l .same-loans ∙ h .same-loans;
       }
 
   pub over-all : (rs : List Record) (i : ℕ) → length rs ≤ i → over rs i ≡ map f rs

@@ -69,7 +69,7 @@ module _ (ls : List Line) (i : ℕ) where
       let x = getD ls i d .account in
       let e = at-drop-more (λ xs. repeated-from i (line-accounts (take i ls)) (line-accounts xs)) ls i d h in
       let t : line-accounts (take i ls) ++ x ∷ [] ≡ line-accounts (take (i + 1) ls) =
-        sym (ap line-accounts (take-more ls i d h) ∙ map-push (λ (l : Line). l .account) (take i ls) (getD ls i d)) in
+      sym (ap line-accounts (take-more ls i d h) ∙ map-push (λ (l : Line). l .account) (take i ls) (getD ls i d)) in
       e ∙ ap (λ ys. cond (present x (line-accounts (take i ls))) (Some i) (repeated-from (i + 1) ys (line-accounts (drop (i + 1) ls)))) t
 
   pub repeated-hit : (d : Line) → i < length ls → present (getD ls i d .account) (line-accounts (take i ls)) ≡ true → repeated-at ≡ Some i

@@ -56,7 +56,7 @@ module _ (units percentages shared : ℕ) (rs : List Record) (i : ℕ) where
       record {
         percents = omega (arith, k .percents);
         gains = omega (arith, k .gains);
-        full = sym (ap (λ b. b || some (overfull units) (drop (i + 1) rs)) o) ∙ k .full
+        full = sym (ap (λ b. b || some (overfull units) (drop (i + 1) rs)) o) ∙ k .full;
       }
 
   pub past-whole : (r : Record) → nth rs i ≡ Some r → Left-at → 100000 < percentages + r .percentage → foreign-to-reading units rs ≡ true

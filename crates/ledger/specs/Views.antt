@@ -12,8 +12,14 @@ use Rattle.ledger.specs.States.{State, Outcome}
 abbrev pub view : Ledger → ℕ → List Record → State
 view l room rs =
     record {
-      smallest = l .smallest; farm = l .farm; phase = l .phase; closed = l .closed; bank = l .bank; read = l .read;
-      room = room; records = rs
+      smallest = l .smallest;
+      farm = l .farm;
+      phase = l .phase;
+      closed = l .closed;
+      bank = l .bank;
+      read = l .read;
+      room = room;
+      records = rs;
     }
 
 abbrev pub outcome : Ledger → ℕ → List Record → Result Done Refusal → Outcome

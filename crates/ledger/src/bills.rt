@@ -97,5 +97,9 @@ pub(crate) fn judge_bill<M: CreditMethod, B: AccountBook>(
     if applied + counted_credit(holder.kind, posting.applied) > 10_000_000_000_000 {
         return Err(Refusal::ForeignBook);
     }
-    Ok(Accepted { place, holder, posting })
+    Ok(Accepted {
+        place,
+        holder,
+        posting,
+    })
 }

@@ -20,24 +20,42 @@ use crediting::method::CreditMethod;
 
 impl Ledger {
     // Performs a call, or declines it and leaves ledger and book as they were.
-    pub fn perform<M: CreditMethod, B: AccountBook>(&mut self, book: &mut B, call: &Call<M>) -> Result<Done, Refusal>
+    pub fn perform<M: CreditMethod, B: AccountBook>(
+        &mut self,
+        book: &mut B,
+        call: &Call<M>,
+    ) -> Result<Done, Refusal>
         ensures kept { λ r. ⌜ (sound (now (book .entry)) → Kept (sound (now (book .exit))) (room (now (book .exit))) (room (now (book .entry))) (side (now (book .exit))) (side (now (book .entry))) (loans (now (book .exit))) (loans (now (book .entry)))) ⌝ }
         ensures steps { λ r. ⌜ (sound (now (book .entry)) → outcome (now (self .exit)) (room (now (book .exit))) (records (now (book .exit))) r ≡ step worth (view (now (self .entry)) (room (now (book .entry))) (records (now (book .entry)))) (now (call .entry))) ⌝ }
     {
         match (&mut self.phase, call) {
             (Phase::Between, Call::Enrol(_)) => Err(Refusal::InPeriod),
             (Phase::Between, Call::Reading(units)) => Err(Refusal::InPeriod),
-            (Phase::Between, Call::Disburse { account, units }) => self.disburse(book, *account, *units),
+            (Phase::Between, Call::Disburse { account, units }) => self.disburse(
+                book,
+                *account,
+                *units,
+            ),
             (Phase::Between, Call::Lapse) => {
                 let forfeited = self.bank;
                 self.bank = 0;
                 Ok(Done::Lapsed { forfeited })
             }
-            (Phase::Between, Call::Bill { .. } | Call::FinalBill { .. } | Call::Close) => Err(Refusal::BetweenPeriods),
-            (Phase::InPeriod { .. }, Call::Enrol(_) | Call::Reading(_) | Call::Disburse { .. } | Call::Lapse) => {
-                Err(Refusal::InPeriod)
-            }
-            (Phase::InPeriod { applied, fees }, Call::Bill { method, account, cents }) => {
+            (Phase::Between, Call::Bill { .. } | Call::FinalBill { .. } | Call::Close) => Err(
+                Refusal::BetweenPeriods,
+            ),
+            (
+                Phase::InPeriod { .. },
+                Call::Enrol(_) | Call::Reading(_) | Call::Disburse { .. } | Call::Lapse,
+            ) => { Err(Refusal::InPeriod) }
+            (
+                Phase::InPeriod { applied, fees },
+                Call::Bill {
+                    method,
+                    account,
+                    cents,
+                },
+            ) => {
                 let period = self.closed + 1;
                 let bill = judge_bill(book, method, period, *applied, *account, *cents)?;
                 *applied += counted_credit(bill.holder.kind, bill.posting.applied);
@@ -52,7 +70,14 @@ impl Ledger {
                 );
                 Ok(Done::Billed(bill.posting))
             }
-            (Phase::InPeriod { applied, fees }, Call::FinalBill { method, account, cents }) => {
+            (
+                Phase::InPeriod { applied, fees },
+                Call::FinalBill {
+                    method,
+                    account,
+                    cents,
+                },
+            ) => {
                 let period = self.closed + 1;
                 let bill = judge_bill(book, method, period, *applied, *account, *cents)?;
                 *applied += counted_credit(bill.holder.kind, bill.posting.applied);

@@ -2,3 +2,5 @@ pub mod Cutting
 pub mod Gathering
 pub mod Listing
 pub mod Saying
+pub mod Again
+pub mod Rewriting

@@ -2,11 +2,14 @@
 use Prim.Native.Nat.{ℕ}
 use mathlib.Core.Bool.{Bool, true, false, not, _&&_}
 use mathlib.Core.List.{List, [], _∷_, _++_}
+use mathlib.Core.Path.{_≡_}
 use lib.Chars.{codes}
 use lib.ListN.{length}
 use lib.Dec.{ltb}
 use Rattle.std.specs.Joined.{joined}
 use Rattle.std.specs.Written.{decimal}
+use Rattle.std.specs.declared.option.Option.the-variants.{Some}
+use Rattle.std.specs.declared.result.Result.the-variants.{Ok}
 use Rattle.accounts.specs.declared.record.Line.{Line}
 use Rattle.accounts.specs.declared.record.Size.{Size}
 use Rattle.accounts.specs.declared.record.Size.the-variants.{Small, Large}
@@ -31,6 +34,7 @@ use Rattle.statements.specs.Meanings.{
   a-disbursement,
   a-lapse,
   a-close,
+  statement-of,
 }
 use Rattle.statements.specs.Words.{is-space}
 
@@ -104,3 +108,8 @@ readable (a-final-bill account cents) = true
 readable (a-disbursement account units) = true
 readable a-lapse = true
 readable a-close = true
+
+-- what is written is a statement's text, and reading it gives the statement again
+pub record Written (m : Meaning) (bs : List ℕ) : Type 0 where
+  pub bytes : bs ≡ text-of m
+  pub again : readable m ≡ true → statement-of bs ≡ Ok (Some m)

@@ -42,7 +42,13 @@ pub impl From<AllocError> for ParseError as ParseErrorFromAlloc {
 fn read_method(line: &mut Reader) -> Result<MethodName, ParseError>
     ensures { λ r. ⌜ r ≡ method-of (words (now (now (line .entry) .left))) ⌝ }
 {
-    let name = line.either(Expected::Method, "value-stack", MethodName::ValueStack, "volumetric", MethodName::Volumetric)?;
+    let name = line.either(
+        Expected::Method,
+        "value-stack",
+        MethodName::ValueStack,
+        "volumetric",
+        MethodName::Volumetric,
+    )?;
     line.end()?;
     Ok(name)
 }
@@ -134,7 +140,11 @@ fn read_request(line: &mut Reader, heap: Global) -> Result<String, ParseError>
 }
 
 // The statement of a first word and the words behind it.
-fn read_statement(keyword: Keyword, line: &mut Reader, heap: Global) -> Result<Statement, ParseError>
+fn read_statement(
+    keyword: Keyword,
+    line: &mut Reader,
+    heap: Global,
+) -> Result<Statement, ParseError>
     ensures value { λ r. ⌜ Told meaning (says keyword (words (now (now (line .entry) .left)))) r ⌝ }
     ensures memory { λ r. ⌜ (r ≡ Err NoMemory → keeps keyword ≡ true) ⌝ }
 {

@@ -66,7 +66,14 @@ impl<'a> Reader<'a> {
     }
 
     // One of two names, each with what it stands for.
-    pub fn either<T: Copy>(&mut self, what: Expected, name: &str, x: T, other: &str, y: T) -> Result<T, ParseError>
+    pub fn either<T: Copy>(
+        &mut self,
+        what: Expected,
+        name: &str,
+        x: T,
+        other: &str,
+        y: T,
+    ) -> Result<T, ParseError>
         ensures value { λ r. ⌜ r ≡ either-at what (now (name .entry)) x (now (other .entry)) y (first (words (now (now (self .entry) .left)))) ⌝ }
         ensures left { λ r. ⌜ words (now (now (self .exit) .left)) ≡ rest (words (now (now (self .entry) .left))) ⌝ }
     {

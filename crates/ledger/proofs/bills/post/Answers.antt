@@ -19,5 +19,5 @@ returns g c =
       used = omega (arith, c .credit-credit .ensures .used, used-within W (r .class) (r .held) (c .args .cents));
       fee = subst (λ n. applied - n ≤ counted (r .kind) applied) (sym en) (fee-counted (r .kind) (r .savings) applied);
       covers = subst (λ n. counted (r .kind) applied ≤ 50 * (applied - n)) (sym en) (fee-covers (r .kind) (r .savings) applied low);
-      bound = search needs
+      bound = search needs;
     }

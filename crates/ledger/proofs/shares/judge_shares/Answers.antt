@@ -12,15 +12,15 @@ pub returns-in-rest : need.returns-in-rest
 returns-in-rest g c =
     record {
       judged = λ s. absurd (nth-below (g .B·AccountBook .records (c .args .book .now)) (c .loop-place .place) (omega (arith, c .count-place-end .ensures s, c .loop-place-test .taken)) (c .in-rest .ensures tt .told s));
-      bound = tt
+      bound = tt;
     }
 
 pub returns-then-percentages-gt100000 : need.returns-then-percentages-gt100000
 returns-then-percentages-gt100000 g c =
     record {
       judged = λ s.
-        (past-whole (c .args .units) (c .loop-place .percentages) (c .loop-place .shared) (g .B·AccountBook .records (c .args .book .now)) (c .loop-place .place) (c .in-Some .holder) (sym (c .in-Some .ensures tt .told s)) (c .loop-place .inv .0 s) (c .if-percentages-gt100000 .taken), refl);
-      bound = tt
+          (past-whole (c .args .units) (c .loop-place .percentages) (c .loop-place .shared) (g .B·AccountBook .records (c .args .book .now)) (c .loop-place .place) (c .in-Some .holder) (sym (c .in-Some .ensures tt .told s)) (c .loop-place .inv .0 s) (c .if-percentages-gt100000 .taken), refl);
+      bound = tt;
     }
 
 pub returns-then-holder-gain-gt1000000000000 : need.returns-then-holder-gain-gt1000000000000
@@ -29,8 +29,8 @@ returns-then-holder-gain-gt1000000000000 g c =
     let over : 1000000000000 < r .held + share (c .args .units) (r .percentage) = omega (arith, c .share-gain .ensures, c .if-holder-gain-gt1000000000000 .taken) in
     record {
       judged = λ s.
-        (past-holding (c .args .units) (c .loop-place .percentages) (c .loop-place .shared) (g .B·AccountBook .records (c .args .book .now)) (c .loop-place .place) r (sym (c .in-Some .ensures tt .told s)) (c .loop-place .inv .0 s) (lt-ltb 1000000000000 (r .held + share (c .args .units) (r .percentage)) over), refl);
-      bound = tt
+          (past-holding (c .args .units) (c .loop-place .percentages) (c .loop-place .shared) (g .B·AccountBook .records (c .args .book .now)) (c .loop-place .place) r (sym (c .in-Some .ensures tt .told s)) (c .loop-place .inv .0 s) (lt-ltb 1000000000000 (r .held + share (c .args .units) (r .percentage)) over), refl);
+      bound = tt;
     }
 
 pub loop-place-again : need.loop-place-again
@@ -43,6 +43,6 @@ pub returns : need.returns
 returns g c =
     record {
       judged = λ s.
-        share-all (c .args .units) (c .loop-place .percentages) (c .loop-place .shared) (g .B·AccountBook .records (c .args .book .now)) (c .loop-place .place) (omega (arith, c .count-place-end .ensures s, c .loop-place-test .left)) (c .loop-place .inv .0 s) (c .loop-place .inv .1);
-      bound = omega (arith, c .loop-place .inv .2, mul-le-mul-left (c .args .units) (c .loop-place .inv .1))
+          share-all (c .args .units) (c .loop-place .percentages) (c .loop-place .shared) (g .B·AccountBook .records (c .args .book .now)) (c .loop-place .place) (omega (arith, c .count-place-end .ensures s, c .loop-place-test .left)) (c .loop-place .inv .0 s) (c .loop-place .inv .1);
+      bound = omega (arith, c .loop-place .inv .2, mul-le-mul-left (c .args .units) (c .loop-place .inv .1));
     }

@@ -8,5 +8,5 @@ pub returns-in-rest : need.returns-in-rest
 returns-in-rest g c =
     record {
       kept = search needs;
-      steps = λ s. sym (ap (disburse-to _ (c .args .units)) (missing (c .args .account) 0 _ (sym (c .search .ensures s) ∙ c .in-rest .is)))
+      steps = λ s. sym (ap (disburse-to _ (c .args .units)) (missing (c .args .account) 0 _ (sym (c .search .ensures s) ∙ c .in-rest .is)));
     }
