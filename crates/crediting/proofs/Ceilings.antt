@@ -1,14 +1,16 @@
 -- Quotients rounded up, and the smallest number of units that a rate makes worth an amount.
 use Prim.Native.Nat.{ℕ, min, _+_, _-_, _*_, _/_, _%_, _≤_, _<_}
 use native.Mathlib.Omega.{arith}
+use lib.Dec.{leb}
 use native.Mathlib.Nat.{add-mul, le-div-iff-mul-le, mod-lt, mul-le-mul, mul-le-mul-right, one-mul, zero-mul}
 use mathlib.Core.Bool.{true}
 use mathlib.Core.List.{List}
-use mathlib.Core.Path.{_≡_, _∙_, ap, subst}
+use mathlib.Core.Path.{_≡_, _∙_}
 use mathlib.Core.Logic.{⊎-elim}
 use Rattle.std.proofs.shelf.Bits.{div-add-mod'}
-use Rattle.std.proofs.shelf.Tests.{and-parts, cases-lt, cond-true, leb-true}
-use Rattle.crediting.specs.Credits.{Credited, Lawful, told-worth}
+use Rattle.std.proofs.shelf.Tests.{and-parts, cases-lt, leb-true}
+use Rattle.crediting.proofs.Fewest.{Uses, applied-inside, uses-inside}
+use Rattle.crediting.specs.Credits.{Credited, Lawful, applied-credit}
 use Rattle.crediting.specs.Ranges.{has-worth, in-ranges, is-class}
 use Rattle.crediting.specs.Worths.{Fair, by-rates, rate-of}
 
@@ -54,13 +56,14 @@ rate-lawful r top =
 -- the rate of each class is in range
 pub class-rate : (rs : List ℕ) (k : ℕ) → Fair rs → is-class k ≡ true → (1 ≤ rate-of rs k) × (rate-of rs k ≤ 1_000_000)
 class-rate rs k all is =
-    let low : 1 ≤ k = leb-true 1 k (and-parts _ _ is .0) in
-    let high : k ≤ 16 = leb-true k 16 (and-parts _ _ is .1) in
+    let low : 1 ≤ k = leb-true 1 k (and-parts (leb 1 k) (leb k 16) is .0) in
+    let high : k ≤ 16 = leb-true k 16 (and-parts (leb 1 k) (leb k 16) is .1) in
     all .1 (k - 1) (omega arith)
 
--- what a credit in range computes from its class's rate and the worth told meets the rule
-pub rated : (rs : List ℕ) (k u b c r x : ℕ) → Fair rs → in-ranges k u b ≡ true → r ≡ rate-of rs k → x ≡ told-worth (by-rates rs) k u → c ≡ min b x → Credited (by-rates rs k) u b c (c * 10_000 / r + min 1 (c * 10_000 % r))
-rated rs k u b c r x all ok is tells lesser =
+-- the units used in range, by the class's rate
+pub uses-rated : (rs : List ℕ) (k u b c r w : ℕ) → Fair rs → in-ranges k u b ≡ true → r ≡ rate-of rs k → c ≡ applied-credit (by-rates rs) k u b → w ≡ c * 10_000 / r + min 1 (c * 10_000 % r) → Uses (by-rates rs) k u b c w
+uses-rated rs k u b c r w all ok is pays rounds =
     let worth : has-worth k u ≡ true = and-parts _ _ ok .0 in
-    let pos = class-rate rs k all (and-parts _ _ worth .0) .0 in
-    rw is (by-rate (rate-of rs k) u b c pos (lesser ∙ ap (λ v. min b v) (tells ∙ cond-true _ _ _ worth)))
+    let bounds = class-rate rs k all (and-parts _ _ worth .0) in
+    let p : Credited (by-rates rs k) u b c w = rw (rounds, is) (by-rate (rate-of rs k) u b c (bounds .0) (pays ∙ applied-inside (by-rates rs) k u b ok)) in
+    uses-inside (by-rates rs) k u b c w (rate-lawful (rate-of rs k) (bounds .1)) ok p

@@ -1,3 +1,3 @@
 pub mod Fewest
 mod Ceilings
-mod Leading
+pub mod Leading

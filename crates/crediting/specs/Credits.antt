@@ -20,6 +20,16 @@ pub record Credited (W : ℕ → ℕ) (u b applied used : ℕ) : Type 0 where
   pub enough : applied ≤ W used
   pub fewest : (w : ℕ) → applied ≤ W w → used ≤ w
 
+-- It is the only credit of which this can be said.
+abbrev pub The-credit : (ℕ → ℕ) → ℕ → ℕ → ℕ → ℕ → Type 0
+The-credit W u b applied used =
+    Credited W u b applied used × ((c w : ℕ) → Credited W u b c w → (c ≡ applied) × (w ≡ used))
+
+-- No more is used than is held, and no more is credited than is billed.
+pub record Within (u b applied used : ℕ) : Type 0 where
+  pub units : used ≤ u
+  pub cents : applied ≤ b
+
 -- The smallest number of units up to u that is worth at least c cents, by a count down from u.
 unfoldable pub smallest : (ℕ → ℕ) → ℕ → ℕ → ℕ
 smallest W c zero = zero
@@ -30,9 +40,9 @@ abbrev pub told-worth : (ℕ → ℕ → ℕ) → ℕ → ℕ → ℕ
 told-worth W k u = cond (has-worth k u) (W k u) 0
 
 -- the applied credit,
-abbrev pub applied-credit : (ℕ → ℕ → ℕ) → ℕ → ℕ → ℕ → ℕ
+unfoldable pub applied-credit : (ℕ → ℕ → ℕ) → ℕ → ℕ → ℕ → ℕ
 applied-credit W k u b = cond (in-ranges k u b) (min b (W k u)) 0
 
 -- and the units used. Outside the ranges each is 0.
-abbrev pub units-used : (ℕ → ℕ → ℕ) → ℕ → ℕ → ℕ → ℕ
+unfoldable pub units-used : (ℕ → ℕ → ℕ) → ℕ → ℕ → ℕ → ℕ
 units-used W k u b = cond (in-ranges k u b) (smallest (W k) (min b (W k u)) u) 0

@@ -1,4 +1,4 @@
--- The rates of the volumetric method, and the worth that they give.
+-- What units are worth by each method.
 use Prim.Native.Nat.{ℕ, _-_, _*_, _/_, _≤_, _<_}
 use lib.Dec.{leb}
 use lib.ListN.{length, getD}
@@ -6,7 +6,18 @@ use mathlib.Core.Bool.{Bool, _&&_}
 use mathlib.Core.List.{List}
 use mathlib.Core.Path.{_≡_}
 
--- A rate is 1 to 1,000,000 ten-thousandths of a cent for a kilowatt-hour.
+-- The mark of a method's unit is a letter: `C` for cents, `K` for kilowatt-hours.
+abbrev pub cents-mark : ℕ
+cents-mark = 67
+
+abbrev pub kilowatt-hours-mark : ℕ
+kilowatt-hours-mark = 75
+
+-- Value Stack: a unit is a cent in every class.
+abbrev pub cents : ℕ → ℕ → ℕ
+cents k u = u
+
+-- Volumetric: a rate is 1 to 1,000,000 ten-thousandths of a cent for a kilowatt-hour.
 abbrev pub fair : ℕ → Bool
 fair r = leb 1 r && leb r 1_000_000
 

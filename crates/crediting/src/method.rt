@@ -1,6 +1,6 @@
 // The interface of a crediting method.
 ghost use Prim.Native.Nat.{ℕ};
-ghost use Rattle.crediting.specs.Credits.{Credited, Lawful, applied-credit, told-worth, units-used};
+ghost use Rattle.crediting.specs.Credits.{Lawful, The-credit, Within, applied-credit, told-worth, units-used};
 ghost use Rattle.crediting.specs.Ranges.{in-ranges, is-class};
 ghost use mathlib.Core.Bool.{true};
 ghost use mathlib.Core.Path.{_≡_};
@@ -30,5 +30,6 @@ pub trait CreditMethod {
     fn credit(&self, class: u8, units: u64, bill: u64) -> Credit
         ensures applied { λ r. ⌜ r .applied ≡ applied-credit (worth (now (self .entry))) class units bill ⌝ }
         ensures used { λ r. ⌜ r .used ≡ units-used (worth (now (self .entry))) class units bill ⌝ }
-        ensures meaning { λ r. ⌜ (in-ranges class units bill ≡ true → Credited (worth (now (self .entry)) class) units bill (r .applied) (r .used)) ⌝ };
+        ensures within { λ r. ⌜ Within units bill (r .applied) (r .used) ⌝ }
+        ensures meaning { λ r. ⌜ (in-ranges class units bill ≡ true → The-credit (worth (now (self .entry)) class) units bill (r .applied) (r .used)) ⌝ };
 }

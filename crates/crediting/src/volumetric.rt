@@ -1,12 +1,13 @@
 // Volumetric: a unit is a kilowatt-hour, and each service class has a rate.
 ghost use Prim.Native.Nat.{ℕ, _≤_, _<_};
-ghost use Rattle.crediting.specs.Ranges.{is-class};
+ghost use Rattle.crediting.specs.Credits.{The-credit, Within, applied-credit, units-used};
+ghost use Rattle.crediting.specs.Ranges.{in-ranges, is-class};
 ghost use Rattle.crediting.specs.Refusals.{Told, judged};
-ghost use Rattle.crediting.specs.Worths.{Fair, by-rates, rate-of};
+ghost use Rattle.crediting.specs.Worths.{Fair, by-rates, kilowatt-hours-mark, rate-of};
 ghost use Rattle.std.specs.Results.{isOk};
 ghost use Rattle.std.specs.declared.option.Option.the-variants.{None, Some};
 ghost use lib.ListN.{replicate};
-ghost use mathlib.Core.Bool.{cond};
+ghost use mathlib.Core.Bool.{cond, true};
 ghost use mathlib.Core.Path.{_≡_};
 use super::credit::CLASSES;
 use super::credit::Credit;
@@ -57,9 +58,9 @@ impl Volumetric {
 pub impl CreditMethod for Volumetric as VolumetricCredit {
     const MARK: u8 = b'K';
 
-    ghost letter = { 75 };
+    ghost letter = { kilowatt-hours-mark };
 
-    ghost worth = { λ s k u. by-rates (s .rates) k u };
+    ghost worth = { λ s. by-rates (s .rates) };
 
     fn letter() -> u8 {
         Self::MARK
@@ -74,17 +75,34 @@ pub impl CreditMethod for Volumetric as VolumetricCredit {
     }
 
     fn credit(&self, class: u8, units: u64, bill: u64) -> Credit {
+        let applied = self.applied(class, units, bill);
+        let used = self.used(class, units, bill, applied);
+        Credit { applied, used }
+    }
+}
+
+impl Volumetric {
+    fn applied(&self, class: u8, units: u64, bill: u64) -> u64
+        ensures { λ r. ⌜ r ≡ applied-credit (by-rates (now (self .entry) .rates)) class units bill ⌝ }
+    {
+        if in_ranges(class, units, bill) {
+            bill.min(self.worth(class, units))
+        } else {
+            0
+        }
+    }
+
+    // A credit takes its cents over the rate, rounded up to whole units.
+    fn used(&self, class: u8, units: u64, bill: u64, applied: u64) -> u64
+        requires { ⌜ applied ≡ applied-credit (by-rates (now self .rates)) class units bill ⌝ }
+        ensures value { λ r. ⌜ r ≡ units-used (by-rates (now (self .entry) .rates)) class units bill ⌝ }
+        ensures within { λ r. ⌜ Within units bill applied r ⌝ }
+        ensures meaning { λ r. ⌜ (in-ranges class units bill ≡ true → The-credit (by-rates (now (self .entry) .rates) class) units bill applied r) ⌝ }
+    {
         if !in_ranges(class, units, bill) {
-            return Credit {
-                applied: 0,
-                used: 0,
-            };
+            return 0;
         }
         let rate = u64::from(self.rates[class as usize - 1]);
-        let applied = bill.min(self.worth(class, units));
-        Credit {
-            applied,
-            used: (applied * 10_000).div_ceil(rate),
-        }
+        (applied * 10_000).div_ceil(rate)
     }
 }

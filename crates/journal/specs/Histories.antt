@@ -1,7 +1,7 @@
 -- A history: what was called and answered since the ledger was opened, the newest first. It says nothing of how the
 -- ledger is kept: what an account had is computed from the readings, requests, disbursements and bills alone.
-use Prim.Native.Nat.{ℕ, _+_, _-_}
-use mathlib.Core.Bool.{Bool, cond}
+use Prim.Native.Nat.{ℕ, _+_}
+use mathlib.Core.Bool.{cond}
 use mathlib.Core.List.{List, [], _∷_}
 use lib.Dec.{eqb}
 use Rattle.std.specs.Of.Vec.{vec-items}

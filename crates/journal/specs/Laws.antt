@@ -1,19 +1,16 @@
 -- The law of any run of a ledger over its history.
 use Prim.Native.Nat.{ℕ, _+_, _-_, _≤_}
-use mathlib.Core.Bool.{Bool, true}
 use mathlib.Core.List.{List, [], _∷_, map, reverse}
 use mathlib.Core.Logic.{_≢_}
 use mathlib.Core.Path.{_≡_}
 use Rattle.std.specs.declared.result.Result.{Result}
-use Rattle.accounts.specs.declared.record.Record.{Record}
 use Rattle.crediting.specs.Credits.{Credited}
 use Rattle.ledger.specs.declared.call.Call.{Call}
 use Rattle.ledger.specs.declared.call.Done.{Done}
 use Rattle.ledger.specs.declared.call.Posting.{Posting}
 use Rattle.ledger.specs.declared.call.Refusal.{Refusal}
 use Rattle.ledger.specs.declared.call.Settlement.{Settlement}
-use Rattle.ledger.specs.declared.phase.Phase.{Phase}
-use Rattle.ledger.specs.declared.phase.Phase.the-variants.{Between, InPeriod}
+use Rattle.ledger.specs.Phases.{fees-in}
 use Rattle.ledger.specs.Refusals.{number}
 use Rattle.ledger.specs.States.{State}
 use Rattle.ledger.specs.Steps.{step}
@@ -81,17 +78,12 @@ module _ {M : Type 0} (worth : M → ℕ → ℕ → ℕ) where
   Each-event [] = Unit {0}
   Each-event (e ∷ h) = Event-rule e h × Each-event h
 
-  -- the fees of the open period, 0 between periods
-  abbrev pub open-fees : Phase → ℕ
-  open-fees Between = 0
-  open-fees (InPeriod applied fees) = fees
-
   -- Units: those of all accepted readings are the units used by bills, forfeited, banked at the host and held by
   -- accounts, together. Cents: all applied credits are all net credits, host payments, utility fees and the fees of the
   -- open period, together. Each bill, close and refusal keeps its rule.
   pub record Law (h : History M) (s : State) : Type 0 where
     pub units : total units-read h ≡ total (of-bill (λ p. p .used)) h + total units-forfeited h + s .bank + total (λ r. r .held) (s .records)
-    pub cents : total (of-bill (λ p. p .applied)) h ≡ total (of-bill (λ p. p .net)) h + total (of-close (λ x. x .payment)) h + total (of-close (λ x. x .utility)) h + open-fees (s .phase)
+    pub cents : total (of-bill (λ p. p .applied)) h ≡ total (of-bill (λ p. p .net)) h + total (of-close (λ x. x .payment)) h + total (of-close (λ x. x .utility)) h + fees-in (s .phase)
     pub each : Each-event h
 
   -- the calls and their answers have a history that keeps the law
@@ -100,3 +92,10 @@ module _ {M : Type 0} (worth : M → ℕ → ℕ → ℕ) where
     pub calls-told : map call-of history ≡ reverse calls
     pub answers-told : map answer-of history ≡ reverse said
     pub law : Law history s
+
+  -- a run from a state at which a ledger was opened: the state that it leaves and its answers are those of performing the
+  -- calls one by one, and they keep the law
+  pub record Ran (start : State) (calls : List (Call M)) (said : List (Result Done Refusal)) (end : State) : Type 0 where
+    pub performed : end ≡ after worth start calls
+    pub answered : said ≡ answers worth start calls
+    pub lawful : Lawful-run calls said end

@@ -1,7 +1,11 @@
 pub mod Fees
+pub mod Found
+pub mod Totals
 pub mod Locating
 pub mod Judging
 pub mod Scanning
 pub mod Sharing
 pub mod Replacing
 pub mod Entering
+pub mod Requests
+pub mod Posting

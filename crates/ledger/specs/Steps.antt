@@ -46,6 +46,15 @@ abbrev pub judge-open : ℕ → ℕ → Option Refusal
 judge-open smallest count =
     cond (eqb smallest 1 || eqb smallest 10) (cond (eqb count 0) None (Some why.BookHasRecords)) (Some why.WrongSmallest)
 
+-- the answer of an opening, and the state that it leaves: a refused one leaves the ledger's place as it was
+abbrev pub open-answer : Option Refusal → Result (Unit {0}) Refusal
+open-answer None = Ok tt
+open-answer (Some refusal) = Err refusal
+
+abbrev pub open-leaves : Option Refusal → State → State → State
+open-leaves None before new = new
+open-leaves (Some refusal) before new = before
+
 -- Enrol
 abbrev pub enrol-judged : State → List Line → Result ℕ Refusal → Outcome
 enrol-judged s ls (Err refusal) = declined s refusal

@@ -1,9 +1,9 @@
 // The calls: opening a ledger, and performing a call on it.
 ghost use lib.ListN.{length};
-ghost use mathlib.Core.List.{List};
+ghost use mathlib.Core.Bool.{false};
+ghost use mathlib.Core.List.{[]};
 ghost use mathlib.Core.Path.{_≡_};
-ghost use Prim.Native.Nat.{_+_};
-ghost use Rattle.ledger.specs.Steps.{step};
+ghost use Rattle.ledger.specs.Steps.{judge-open, open-answer, open-leaves, opened, step};
 ghost use Rattle.ledger.specs.Views.{Kept, outcome, view};
 use super::bills::counted_credit;
 use super::bills::judge_bill;
@@ -19,6 +19,47 @@ use accounts::record::State;
 use crediting::method::CreditMethod;
 
 impl Ledger {
+    // A place for a ledger, as if opened for a project that needs ten lines, without the farm mark.
+    pub fn new() -> Ledger
+        ensures { λ r. ⌜ view r 0 [] ≡ opened 10 false 0 [] ⌝ }
+    {
+        Ledger {
+            smallest: 10,
+            farm: false,
+            phase: Phase::Between,
+            closed: 0,
+            bank: 0,
+            read: 0,
+        }
+    }
+
+    // Opens a ledger in its place, on a book with no records.
+    pub fn open<B: AccountBook>(
+        &mut self,
+        smallest: u32,
+        farm: bool,
+        book: &B,
+    ) -> Result<(), Refusal>
+        ensures answer { λ r. ⌜ (sound (now (book .entry)) → r ≡ open-answer (judge-open smallest (length (records (now (book .entry)))))) ⌝ }
+        ensures state { λ r. ⌜ (sound (now (book .entry)) → view (now (self .exit)) (room (now (book .entry))) (records (now (book .entry))) ≡ open-leaves (judge-open smallest (length (records (now (book .entry))))) (view (now (self .entry)) (room (now (book .entry))) (records (now (book .entry)))) (opened smallest farm (room (now (book .entry))) (records (now (book .entry))))) ⌝ }
+    {
+        if smallest != 1 && smallest != 10 {
+            return Err(Refusal::WrongSmallest);
+        }
+        if book.count() != 0 {
+            return Err(Refusal::BookHasRecords);
+        }
+        *self = Ledger {
+            smallest,
+            farm,
+            phase: Phase::Between,
+            closed: 0,
+            bank: 0,
+            read: 0,
+        };
+        Ok(())
+    }
+
     // Performs a call, or declines it and leaves ledger and book as they were.
     pub fn perform<M: CreditMethod, B: AccountBook>(
         &mut self,
@@ -29,8 +70,8 @@ impl Ledger {
         ensures steps { λ r. ⌜ (sound (now (book .entry)) → outcome (now (self .exit)) (room (now (book .exit))) (records (now (book .exit))) r ≡ step worth (view (now (self .entry)) (room (now (book .entry))) (records (now (book .entry)))) (now (call .entry))) ⌝ }
     {
         match (&mut self.phase, call) {
-            (Phase::Between, Call::Enrol(_)) => Err(Refusal::InPeriod),
-            (Phase::Between, Call::Reading(units)) => Err(Refusal::InPeriod),
+            (Phase::Between, Call::Enrol(lines)) => self.enrol(book, lines.as_slice()),
+            (Phase::Between, Call::Reading(units)) => self.reading(book, *units),
             (Phase::Between, Call::Disburse { account, units }) => self.disburse(
                 book,
                 *account,

@@ -77,3 +77,59 @@ fn enter_line<B: AccountBook>(book: &mut B, line: &Line)
         }
     }
 }
+
+// Enters lines in their order.
+fn enter_lines<B: AccountBook>(book: &mut B, lines: &[Line])
+    ensures { λ _. ⌜ (sound (now (book .entry)) → every line-in-range (now (lines .entry)) ≡ true → length (records (now (book .entry))) + new-accounts (records (now (book .entry))) (now (lines .entry)) ≤ room (now (book .entry)) → Left (sound (now (book .exit))) (records (now (book .exit))) (enter-all (records (now (book .entry))) (now (lines .entry))) (room (now (book .exit))) (room (now (book .entry))) (side (now (book .exit))) (side (now (book .entry))) (loans (now (book .exit))) (loans (now (book .entry)))) ⌝ }
+{
+    for line in lines {
+        enter_line(book, line);
+    }
+}
+
+impl Ledger {
+    // The number of new accounts of a request, or why it is declined.
+    fn judge_lines<B: AccountBook>(&self, book: &B, lines: &[Line]) -> Result<usize, Refusal>
+        ensures { λ r. ⌜ (sound (now (book .entry)) → r ≡ judge-lines (now (self .entry) .smallest) (now (self .entry) .farm) (room (now (book .entry))) (records (now (book .entry))) (now (lines .entry))) ⌝ }
+    {
+        if lines.len() < self.smallest as usize || lines.len() > 1_024 {
+            return Err(Refusal::WrongLineCount);
+        }
+        if let Some(place) = first_out_of_range(lines) {
+            return Err(Refusal::LineOutOfRange { place });
+        }
+        if let Some(place) = first_repeated(lines) {
+            return Err(Refusal::AccountRepeated { place });
+        }
+        if let Some(place) = first_closed(book, lines) {
+            return Err(Refusal::LineOfClosedAccount { place });
+        }
+        let sums = percentages(lines);
+        if sums.all > 100_000 {
+            return Err(Refusal::PercentagesPass);
+        }
+        if !self.farm && sums.large > 40_000 {
+            return Err(Refusal::LargePercentagesPass);
+        }
+        let new = new_accounts(book, lines);
+        if new > book.capacity().saturating_sub(book.count()) {
+            return Err(Refusal::BookTooSmall);
+        }
+        Ok(new)
+    }
+
+    // Accounts on a line get its values, new ones join, and other records keep no percentage.
+    pub(crate) fn enrol<B: AccountBook>(
+        &mut self,
+        book: &mut B,
+        lines: &[Line],
+    ) -> Result<Done, Refusal>
+        ensures kept { λ r. ⌜ (sound (now (book .entry)) → Kept (sound (now (book .exit))) (room (now (book .exit))) (room (now (book .entry))) (side (now (book .exit))) (side (now (book .entry))) (loans (now (book .exit))) (loans (now (book .entry)))) ⌝ }
+        ensures steps { λ r. ⌜ (sound (now (book .entry)) → outcome (now (self .exit)) (room (now (book .exit))) (records (now (book .exit))) r ≡ enrol (view (now (self .entry)) (room (now (book .entry))) (records (now (book .entry)))) (now (lines .entry))) ⌝ }
+    {
+        let new = self.judge_lines(book, lines)?;
+        clear_percentages(book);
+        enter_lines(book, lines);
+        Ok(Done::Enrolled { new })
+    }
+}

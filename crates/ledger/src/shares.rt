@@ -9,9 +9,13 @@ ghost use Rattle.accounts.specs.Books.{Left};
 ghost use Rattle.ledger.specs.Accepting.{Shared};
 ghost use Rattle.ledger.specs.Records.{gaining};
 ghost use Rattle.ledger.specs.Rules.{share};
-ghost use Rattle.ledger.specs.Steps.{foreign-to-reading};
+ghost use Rattle.ledger.specs.Steps.{foreign-to-reading, reading};
+ghost use Rattle.ledger.specs.Views.{Kept, outcome, view};
+use super::call::Done;
 use super::call::Refusal;
 use super::holders::holder_at;
+use super::ledger::Ledger;
+use super::phase::Phase;
 use accounts::book::AccountBook;
 use accounts::record::Record;
 
@@ -59,5 +63,38 @@ pub(crate) fn gain_shares<B: AccountBook>(book: &mut B, units: u64)
             let held = holder.held + share(units, holder.percentage);
             let _ = book.replace(place, Record { held, ..holder });
         }
+    }
+}
+
+impl Ledger {
+    // Opens the next period with a reading: each satellite gains its share, and the host's bank the rest.
+    pub(crate) fn reading<B: AccountBook>(
+        &mut self,
+        book: &mut B,
+        units: u64,
+    ) -> Result<Done, Refusal>
+        ensures kept { λ r. ⌜ (sound (now (book .entry)) → Kept (sound (now (book .exit))) (room (now (book .exit))) (room (now (book .entry))) (side (now (book .exit))) (side (now (book .entry))) (loans (now (book .exit))) (loans (now (book .entry)))) ⌝ }
+        ensures steps { λ r. ⌜ (sound (now (book .entry)) → outcome (now (self .exit)) (room (now (book .exit))) (records (now (book .exit))) r ≡ reading (view (now (self .entry)) (room (now (book .entry))) (records (now (book .entry)))) units) ⌝ }
+    {
+        if self.closed >= 1_200 {
+            return Err(Refusal::PeriodsOver);
+        }
+        if units > 10_000_000_000 {
+            return Err(Refusal::ReadingTooLarge);
+        }
+        if self.read + units > 1_000_000_000_000 {
+            return Err(Refusal::ReadingsPass);
+        }
+        let shared = judge_shares(book, units)?;
+        gain_shares(book, units);
+        self.phase = Phase::InPeriod {
+            applied: 0,
+            fees: 0,
+        };
+        self.bank += units - shared;
+        self.read += units;
+        Ok(Done::Opened {
+            period: self.closed + 1,
+        })
     }
 }
