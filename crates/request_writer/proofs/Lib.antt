@@ -1,0 +1,7 @@
+mod Checks
+mod Fields
+mod Holding
+mod Packs
+mod Places
+mod Texts
+mod Trips

@@ -1,0 +1,4 @@
+pub mod Causes
+pub mod Form
+pub mod Meaning
+pub mod Parts
