@@ -1,0 +1,4 @@
+pub mod Images
+pub mod Refusals
+pub mod Reading
+pub mod Holding
