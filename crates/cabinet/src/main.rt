@@ -13,7 +13,7 @@ use crediting::volumetric::VolumetricCredit;
 use files::pack;
 use files::show;
 use post::post_in_book;
-use posting::order::head;
+use posting::order::read_head;
 use posting::rated::ValueStackRated;
 use posting::rated::VolumetricRated;
 use statements::statement::MethodName;
@@ -29,7 +29,7 @@ fn post_text(rt: &LibcRuntime, text: &[u8]) -> Result<bool, AnyError> {
     let Some(Journal { entries, end }) = entries(rt, text)? else {
         return Ok(false);
     };
-    match head(entries.as_slice(), end) {
+    match read_head(entries.as_slice(), end) {
         Ok(head) => {
             match head.method {
                 MethodName::ValueStack => post_in_book::<ValueStack>(rt, head, entries.as_slice())?,

@@ -1,6 +1,7 @@
 // What people are told.
 use crediting::rates::RatesRefusal;
 use posting::order::Wanted;
+use request_writer::refusal::WriteRefusal;
 use requests::fault::RequestRefusal;
 
 pub const HELP: &str = "\
@@ -57,5 +58,15 @@ pub fn request_words(why: &RequestRefusal) -> &'static str {
             "the pair starts too early, has a length outside 30 to 110, or passes the file's end"
         }
         RequestRefusal::Line(_) => "the line breaks the form",
+    }
+}
+
+pub fn write_words(why: WriteRefusal) -> &'static str {
+    match why {
+        WriteRefusal::LineCount => "a request file has 1 to 1024 lines",
+        WriteRefusal::Number { .. } => "a number has more digits than its field",
+        WriteRefusal::Remark { .. } => "a remark has over 79 bytes",
+        WriteRefusal::FileLength => "the file would have over 65535 bytes",
+        WriteRefusal::Memory => "there is no memory for the file",
     }
 }

@@ -146,8 +146,8 @@ pub fn plan<M: Rated + Drop>(entries: &[Entry], heap: Global) -> Result<Plan<M>,
     ensures { λ r. ⌜ made r (λ p. seen (M·CreditMethod .worth) p ≡ planned (M·Rated .worths) begun (map told (now (entries .entry)))) ⌝ }
 {
     let mut plan = Plan::new(heap);
-    for entry in entries {
-        plan.add(entry, heap)?;
+    for one in entries {
+        plan.add(one, heap)?;
     }
     Ok(plan)
 }

@@ -50,7 +50,7 @@ pub struct OrderFault {
     pub wanted: Wanted,
 }
 
-fn part(statement: &Statement) -> Part
+fn part_of(statement: &Statement) -> Part
     ensures { λ r. ⌜ r ≡ part (meaning (now (statement .entry))) ⌝ }
 {
     match statement {
@@ -105,12 +105,12 @@ impl Stage {
 }
 
 // The head of a journal whose text ends before the line `end`, or the first line that is out of order.
-pub fn head(entries: &[Entry], end: usize) -> Result<Head, OrderFault>
+pub fn read_head(entries: &[Entry], end: usize) -> Result<Head, OrderFault>
     ensures { λ r. ⌜ r ≡ head-of end (map placed (now (entries .entry))) ⌝ }
 {
     let mut stage = Stage::Start;
-    for entry in entries {
-        stage = stage.next(entry.line, part(&entry.statement))?;
+    for one in entries {
+        stage = stage.next(one.line, part_of(&one.statement))?;
     }
     stage.head(end)
 }
