@@ -3,8 +3,10 @@ use Prim.Native.Nat.{ℕ}
 use mathlib.Core.List.{List, [], _∷_, _++_, map}
 use lib.ListN.{replicate}
 use Rattle.std.specs.Of.Vec.{vec-items}
+use Rattle.std.specs.declared.alloc.Global.{Global}
 use Rattle.std.specs.declared.result.Result.{Result}
 use Rattle.std.specs.declared.result.Result.the-variants.{Ok, Err}
+use Rattle.std.specs.declared.vec.Vec.{Vec}
 use Rattle.accounts.specs.declared.record.Line.{Line}
 use Rattle.crediting.specs.Refusals.{judged}
 use Rattle.crediting.specs.declared.rates.RatesRefusal.{RatesRefusal}
@@ -67,6 +69,11 @@ more-line s l = record { rates = s .rates; lines = s .lines ++ l ∷ []; calls =
 abbrev pub lines-if : Result (List Line) RequestRefusal → List Line → List Line
 lines-if (Ok new) old = new
 lines-if (Err _) old = old
+
+-- lines in memory as a list
+abbrev pub listed : Result (Vec Line Global) RequestRefusal → Result (List Line) RequestRefusal
+listed (Ok lines) = Ok (vec-items lines)
+listed (Err why) = Err why
 
 -- a file has at most 1,024 lines
 abbrev pub read-file : State → List ℕ → State

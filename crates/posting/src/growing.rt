@@ -3,9 +3,9 @@ ghost use mathlib.Core.List.{map};
 ghost use mathlib.Core.Path.{_≡_};
 ghost use Rattle.std.specs.Of.Vec.{vec-items};
 ghost use Rattle.std.specs.Vec.{made};
-ghost use Rattle.statements.specs.Meanings.{meaning};
+ghost use Rattle.requests.specs.Meaning.{reading};
 ghost use Rattle.posting.specs.Deeds.{deed};
-ghost use Rattle.posting.specs.Plans.{seen, begun, noted, called, with-rates, more-line, read-file, enrolled, step, planned, told};
+ghost use Rattle.posting.specs.Plans.{seen, begun, listed, noted, called, with-rates, more-line, read-file, enrolled, step, planned, told};
 use super::entry::Entry;
 use super::note::Note;
 use super::plan::Plan;
@@ -16,6 +16,7 @@ use accounts::record::Size;
 use crediting::method::CreditMethod;
 use crediting::volumetric::Volumetric;
 use ledger::call::Call;
+use requests::fault::RequestRefusal;
 use requests::reader::read;
 use statements::statement::Statement;
 use std::alloc::AllocError;
@@ -32,6 +33,24 @@ const BLANK: Line = Line {
     size: Size::Small,
     kind: Kind::Member,
 };
+
+// The lines of a request file, or why it is refused.
+fn request_lines(
+    file: &[u8],
+    heap: Global,
+) -> Result<Result<Vec<Line>, RequestRefusal>, AllocError>
+    ensures { λ r. ⌜ made r (λ x. listed x ≡ reading (now (file .entry)) 1024) ⌝ }
+{
+    let mut table = [BLANK; MOST_LINES];
+    match read(file, &mut table) {
+        Ok(count) => {
+            let mut lines = Vec::from_slice(heap, &table)?;
+            lines.truncate(count);
+            Ok(Ok(lines))
+        }
+        Err(why) => Ok(Err(why)),
+    }
+}
 
 impl<M: Rated + Drop> Plan<M> {
     // No call, no line in hand, rate 1 for every class.
@@ -79,13 +98,14 @@ impl<M: Rated + Drop> Plan<M> {
     fn read_request(&mut self, file: &[u8], heap: Global) -> Result<(), AllocError>
         ensures { λ r. ⌜ made r (λ _. seen (M·CreditMethod .worth) (now (self .exit)) ≡ read-file (seen (M·CreditMethod .worth) (now (self .entry))) (now (file .entry))) ⌝ }
     {
-        let mut table = vec![in heap; BLANK; MOST_LINES]?;
-        let read = read(file, table.as_mut_slice());
-        if let Ok(lines) = read {
-            table.truncate(lines);
-            self.lines = table;
+        match request_lines(file, heap)? {
+            Ok(lines) => {
+                let count = lines.len();
+                self.lines = lines;
+                self.note(Note::Request(Ok(count)))
+            }
+            Err(why) => self.note(Note::Request(Err(why))),
         }
-        self.note(Note::Request(read))
     }
 
     fn enrol(&mut self, heap: Global) -> Result<(), AllocError>

@@ -1,0 +1,7 @@
+use Rattle.posting.proofs.totals.sum.Needs as need
+
+pub loop-place-again : need.loop-place-again
+loop-place-again g c = ?
+
+pub returns : need.returns
+returns g c = ?
