@@ -1,5 +1,7 @@
 // Sums over calls and their answers.
+ghost use lib.ListN.{length, drop};
 ghost use mathlib.Core.Path.{_≡_};
+ghost use Prim.Native.Nat.{_+_, _≤_, _<_};
 ghost use Rattle.ledger.specs.Sums.{total};
 ghost use Rattle.posting.specs.Amounts.{of-bill, of-close, of-lapse, of-call, amount, sum-of};
 use accounts::book::AccountBook;
@@ -80,17 +82,43 @@ impl Amount {
     }
 }
 
+// What the call and the answer at a place add.
+fn amount_at<M>(
+    amount: Amount,
+    calls: &[Call<M>],
+    answers: &[Result<Done, Refusal>],
+    place: usize,
+) -> u64
+    requires call { ⌜ place < length (now calls) ⌝ }
+    requires answer { ⌜ place < length (now answers) ⌝ }
+    ensures step { λ r. ⌜ sum-of amount (drop place (now (calls .entry))) (drop place (now (answers .entry))) ≡ r + sum-of amount (drop (place + 1) (now (calls .entry))) (drop (place + 1) (now (answers .entry))) ⌝ }
+    ensures bound { λ r. ⌜ r ≤ 18446744073709551615 ⌝ }
+{
+    let call = &calls[place];
+    let answer = &answers[place];
+    amount.of(call, answer)
+}
+
 // The sum of an amount over calls with their answers, in order.
 pub fn sum<M>(amount: Amount, calls: &[Call<M>], answers: &[Result<Done, Refusal>]) -> u128
     ensures { λ r. ⌜ r ≡ sum-of amount (now (calls .entry)) (now (answers .entry)) ⌝ }
 {
     let mut sum = 0u128;
-    for (place, answer) in answers.iter().enumerate() {
-        if place < calls.len() {
-            sum += u128::from(amount.of(&calls[place], answer));
-        }
+    for place in 0..calls.len().min(answers.len()) {
+        sum += u128::from(amount_at(amount, calls, answers, place));
     }
     sum
+}
+
+// The units held in the record at a place.
+fn held_at<B: AccountBook>(book: &B, place: usize) -> u64
+    ensures step { λ r. ⌜ (sound (now (book .entry)) → total (λ x. x .held) (drop place (records (now (book .entry)))) ≡ r + total (λ x. x .held) (drop (place + 1) (records (now (book .entry))))) ⌝ }
+    ensures bound { λ r. ⌜ r ≤ 18446744073709551615 ⌝ }
+{
+    match book.get(place) {
+        Some(holder) => holder.held,
+        None => 0,
+    }
 }
 
 // The units held in all records.
@@ -99,9 +127,7 @@ pub fn held<B: AccountBook>(book: &B) -> u128
 {
     let mut sum = 0u128;
     for place in 0..book.count() {
-        if let Some(record) = book.get(place) {
-            sum += u128::from(record.held);
-        }
+        sum += u128::from(held_at(book, place));
     }
     sum
 }
