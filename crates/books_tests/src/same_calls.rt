@@ -7,9 +7,9 @@ use accounts::record::RecordDebug;
 use accounts::record::RecordPartialEq;
 use image_book::book::ImageAccountBook;
 use image_book::book::ImageBook;
-use image_book::checks::check_open;
 use image_book::checks::ImageRefusalDebug;
 use image_book::checks::ImageRefusalPartialEq;
+use image_book::checks::check_open;
 use std::test::*;
 use table_book::TableAccountBook;
 use table_book::TableBook;
@@ -44,8 +44,15 @@ fn ask<B: AccountBook>(book: &mut B, call: Call) -> Answer {
 }
 
 fn script() -> [(Call, Answer); 22] {
-    let billed = Record { held: 7, last: 1, ..small(5) };
-    let ranged_out = Record { class: 17, ..small(5) };
+    let billed = Record {
+        held: 7,
+        last: 1,
+        ..small(5)
+    };
+    let ranged_out = Record {
+        class: 17,
+        ..small(5)
+    };
     [
         (Call::Count, Answer::Number(0)),
         (Call::Capacity, Answer::Number(3)),
@@ -102,6 +109,12 @@ fn opened_again() -> Result<(), Fail> {
     let mut again = ImageBook::open(&mut image);
     check_eq(ask(&mut again, Call::Capacity), Answer::Number(3))?;
     check_eq(ask(&mut again, Call::Count), Answer::Number(3))?;
-    check_eq(ask(&mut again, Call::Get(1)), Answer::Record(Some(largest())))?;
-    check_eq(ask(&mut again, Call::Get(2)), Answer::Record(Some(small(1))))
+    check_eq(
+        ask(&mut again, Call::Get(1)),
+        Answer::Record(Some(largest())),
+    )?;
+    check_eq(
+        ask(&mut again, Call::Get(2)),
+        Answer::Record(Some(small(1))),
+    )
 }

@@ -1,4 +1,7 @@
 // Posts the entries of a journal through the ledger's run, and prints the answers.
+use super::words::IMAGE_REASON;
+use super::words::rates_words;
+use super::words::request_words;
 use accounts::book::AccountBook;
 use accounts::record::Kind;
 use accounts::record::Record;
@@ -40,9 +43,6 @@ use std::io::BufWriter;
 use std::io::Write;
 use table_book::TableAccountBook;
 use table_book::TableBook;
-use super::words::IMAGE_REASON;
-use super::words::rates_words;
-use super::words::request_words;
 
 const MOST_RECORDS: u64 = 4_096;
 
@@ -144,7 +144,13 @@ fn note_line(
         }
         Note::Request(Ok(lines)) => request_line(*lines, heap)?,
         Note::Request(Err(why)) => {
-            refusal_line("request", why.number(), why.place(), request_words(why), heap)?
+            refusal_line(
+                "request",
+                why.number(),
+                why.place(),
+                request_words(why),
+                heap,
+            )?
         }
         call => match answer {
             Some(answer) => answer_line(word(call), *answer, heap)?,

@@ -18,5 +18,5 @@ take-front (x ∷ xs) ys = ap (λ r. x ∷ r) (take-front xs ys)
 pub first-lines : (R : Result (List Line) RequestRefusal) (n : ℕ) (t : List Line) → Ok n ≡ counted R → Ok (take n (written R t)) ≡ R
 first-lines (Ok ls) n t e =
     let same : n ≡ length ls = cc in
-    ap (λ (k : ℕ). Ok (take k (written (Ok ls) t))) same ∙ ap (λ (xs : List Line). Ok xs) (take-front ls _)
+    ap (λ (k : ℕ). Ok (take k (written {E = RequestRefusal} (Ok ls) t))) same ∙ ap (λ (xs : List Line). Ok xs) (take-front ls _)
 first-lines (Err why) n t e = let z : _≡_ {A = ℕ} 0 1 = cc in absurd (omega arith)

@@ -20,13 +20,12 @@ use Rattle.posting.specs.Amounts.{amount, sum-of}
 use Rattle.posting.specs.declared.totals.Amount.{Amount}
 
 module _ {M : Type 0} (a : Amount) where
-  pub sum-more : (calls : List (Call M)) (said : List (Result Done Refusal)) (i : ℕ) (c : Call M) (r : Result Done Refusal) → i < length calls → i < length said → c ≡ getD calls i c → r ≡ getD said i r → sum-of a (drop i calls) (drop i said) ≡ amount a c r + sum-of a (drop (i + 1) calls) (drop (i + 1) said)
+  pub sum-more : (calls : List (Call M)) (said : List (Result Done Refusal)) (i : ℕ) (c : Call M) (d : Result Done Refusal) → i < length calls → i < length said → c ≡ getD calls i c → sum-of a (drop i calls) (drop i said) ≡ amount a c (getD said i d) + sum-of a (drop (i + 1) calls) (drop (i + 1) said)
   unfolding sum-of
-  sum-more calls said i c r h k is answers =
+  sum-more calls said i c d h k is =
       at-drop-more (λ cs. sum-of a cs (drop i said)) calls i c h
-      ∙ at-drop-more (λ rs. sum-of a (getD calls i c ∷ drop (i + 1) calls) rs) said i r k
-      ∙ ap (λ x. amount a x (getD said i r) + sum-of a (drop (i + 1) calls) (drop (i + 1) said)) (sym is)
-      ∙ ap (λ x. amount a c x + sum-of a (drop (i + 1) calls) (drop (i + 1) said)) (sym answers)
+      ∙ at-drop-more (λ rs. sum-of a (getD calls i c ∷ drop (i + 1) calls) rs) said i d k
+      ∙ ap (λ x. amount a x (getD said i d) + sum-of a (drop (i + 1) calls) (drop (i + 1) said)) (sym is)
 
   sum-none : (cs : List (Call M)) → sum-of a cs [] ≡ 0
   unfolding sum-of

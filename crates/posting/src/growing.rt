@@ -35,10 +35,7 @@ const BLANK: Line = Line {
 };
 
 // The lines of a request file, or why it is refused.
-fn request_lines(
-    file: &[u8],
-    heap: Global,
-) -> Result<Result<Vec<Line>, RequestRefusal>, AllocError>
+fn request_lines(file: &[u8], heap: Global) -> Result<Result<Vec<Line>, RequestRefusal>, AllocError>
     ensures { λ r. ⌜ made r (λ x. listed x ≡ reading (now (file .entry)) 1024) ⌝ }
 {
     let mut table = [BLANK; MOST_LINES];

@@ -43,18 +43,18 @@ impl Amount {
         match self {
             Amount::Paid => settlement.payment,
             Amount::Utility => settlement.utility,
-            Amount::Read
-            | Amount::Used
-            | Amount::Forfeited
-            | Amount::Applied
-            | Amount::Net => 0,
+            Amount::Read | Amount::Used | Amount::Forfeited | Amount::Applied | Amount::Net => 0,
         }
     }
 
     fn of_lapse(self, forfeited: u64) -> u64
         ensures { λ r. ⌜ r ≡ of-lapse self forfeited ⌝ }
     {
-        if self == Amount::Forfeited { forfeited } else { 0 }
+        if self == Amount::Forfeited {
+            forfeited
+        } else {
+            0
+        }
     }
 
     // What a call itself adds once it is accepted: the units of a reading.

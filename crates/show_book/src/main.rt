@@ -57,7 +57,15 @@ fn fill<B: AccountBook>(book: &mut B)
     let _ = book.add(SHOP);
     let _ = book.add(MILL);
     let _ = book.add(SHOP);
-    let _ = book.replace(0, Record { state: State::Closed, held: 258, last: 3, ..SHOP });
+    let _ = book.replace(
+        0,
+        Record {
+            state: State::Closed,
+            held: 258,
+            last: 3,
+            ..SHOP
+        },
+    );
 }
 
 fn print_records<B: AccountBook>(rt: &LibcRuntime, title: &str, book: &B) -> io::Result<()> {
@@ -75,7 +83,10 @@ fn print_records<B: AccountBook>(rt: &LibcRuntime, title: &str, book: &B) -> io:
             let state = r.state;
             let held = r.held;
             let last = r.last;
-            println!(rt, "{place} {account} {percentage} {savings} {class} {size:?} {kind:?} {state:?} {held} {last}")?;
+            println!(
+                rt,
+                "{place} {account} {percentage} {savings} {class} {size:?} {kind:?} {state:?} {held} {last}"
+            )?;
         }
     }
     Ok(())

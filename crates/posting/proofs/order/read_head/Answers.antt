@@ -11,7 +11,7 @@ returns-in-Break-stage c =
     let one = c .one-item .result in
     let told : c .next .result ≡ next (c .loop-one .stage) (placed one .0) (placed one .1) = search needs in
     let fault : Err (c .in-Break-stage .field-0 .0) ≡ head-of (c .args .end) (map placed (c .args .entries .now)) =
-        ordered-more (c .args .end) (c .args .entries .now) (c .loop-one .one-index) (c .loop-one .stage) one (Err (c .in-Break-stage .field-0 .0)) (c .loop-one-test .taken) (c .one-item .is) (sym (c .in-Break-stage .was tt) ∙ told) ∙ c .loop-one .inv
+    ordered-more (c .args .end) (c .args .entries .now) (c .loop-one .one-index) (c .loop-one .stage) one (Err (c .in-Break-stage .field-0 .0)) (c .loop-one-test .taken) (c .one-item .is) (sym (c .in-Break-stage .was tt) ∙ told) ∙ c .loop-one .inv
     in
     search needs
 

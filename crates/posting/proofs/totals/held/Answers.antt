@@ -9,5 +9,5 @@ loop-place-again g c =
 pub returns : need.returns
 returns g c =
     λ s.
-        let done = held-end (g .B·AccountBook .records (c .args .book .now)) (c .loop-place .place) (omega (arith, c .count-place-end .ensures s, c .loop-place-test .left)) in
-        omega (arith, done, c .loop-place .inv .0 s)
+    let done = held-end (g .B·AccountBook .records (c .args .book .now)) (c .loop-place .place) (omega (arith, c .count-place-end .ensures s, c .loop-place-test .left)) in
+    omega (arith, done, c .loop-place .inv .0 s)
