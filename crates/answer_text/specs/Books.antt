@@ -39,16 +39,19 @@ abbrev pub ledger-text : Phase → ℕ → ℕ → List ℕ
 ledger-text Between closed bank = phase-line (codes "between periods") closed bank 0 0
 ledger-text (InPeriod applied fees) closed bank = phase-line (codes "in period") closed bank applied fees
 
+abbrev pub terms-text : Record → List ℕ
+terms-text r =
+    codes "percentage " ++ (decimal (r .percentage)
+    ++ (codes " savings " ++ (decimal (r .savings)
+    ++ (codes " class " ++ (decimal (r .class)
+    ++ (codes " size " ++ (size-text (r .size) ++ (codes " kind " ++ kind-text (r .kind)))))))))
+
 abbrev pub account-text : Record → List ℕ
 account-text r =
     codes "account " ++ (decimal (r .account)
-    ++ (codes ": percentage " ++ (decimal (r .percentage)
-    ++ (codes " savings " ++ (decimal (r .savings)
-    ++ (codes " class " ++ (decimal (r .class)
-    ++ (codes " size " ++ (size-text (r .size)
-    ++ (codes " kind " ++ (kind-text (r .kind)
+    ++ (codes ": " ++ (terms-text r
     ++ (codes " state " ++ (state-text (r .state)
-    ++ (codes " held " ++ (decimal (r .held) ++ (codes " last " ++ decimal (r .last)))))))))))))))))
+    ++ (codes " held " ++ (decimal (r .held) ++ (codes " last " ++ decimal (r .last)))))))))
 
 abbrev pub units-text : UnitTotals → List ℕ
 units-text t =

@@ -24,7 +24,10 @@ fn bill_line(posting: Posting, heap: Global) -> Result<String, AllocError>
     let used = posting.used;
     let net = posting.net;
     let fee = posting.fee;
-    format!(heap, "bill: applied {applied} used {used} net {net} fee {fee}")
+    format!(
+        heap,
+        "bill: applied {applied} used {used} net {net} fee {fee}"
+    )
 }
 
 fn final_line(posting: Posting, forfeited: u64, heap: Global) -> Result<String, AllocError>
@@ -34,7 +37,10 @@ fn final_line(posting: Posting, forfeited: u64, heap: Global) -> Result<String, 
     let used = posting.used;
     let net = posting.net;
     let fee = posting.fee;
-    format!(heap, "final: applied {applied} used {used} net {net} fee {fee} forfeited {forfeited}")
+    format!(
+        heap,
+        "final: applied {applied} used {used} net {net} fee {fee} forfeited {forfeited}"
+    )
 }
 
 fn close_line(settlement: Settlement, heap: Global) -> Result<String, AllocError>
@@ -44,7 +50,10 @@ fn close_line(settlement: Settlement, heap: Global) -> Result<String, AllocError
     let fees = settlement.fees;
     let utility = settlement.utility;
     let payment = settlement.payment;
-    format!(heap, "close: applied {applied} fees {fees} utility {utility} payment {payment}")
+    format!(
+        heap,
+        "close: applied {applied} fees {fees} utility {utility} payment {payment}"
+    )
 }
 
 // The line of a call that the ledger performs.
@@ -63,7 +72,11 @@ fn done_line(done: Done, heap: Global) -> Result<String, AllocError>
 }
 
 // The line of a call, by the word of its statement where it is declined.
-pub fn answer_line(word: &str, answer: Result<Done, Refusal>, heap: Global) -> Result<String, AllocError>
+pub fn answer_line(
+    word: &str,
+    answer: Result<Done, Refusal>,
+    heap: Global,
+) -> Result<String, AllocError>
     ensures { λ r. ⌜ made r (λ s. string-bytes s ≡ answer-text (now (word .entry)) answer) ⌝ }
 {
     match answer {

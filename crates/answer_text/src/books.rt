@@ -2,7 +2,7 @@
 ghost use mathlib.Core.Path.{_≡_};
 ghost use Rattle.std.specs.Of.String.{string-bytes};
 ghost use Rattle.std.specs.Vec.{made};
-ghost use Rattle.answer_text.specs.Books.{size-text, kind-text, state-text, phase-line, ledger-text, account-text, units-text, cents-text};
+ghost use Rattle.answer_text.specs.Books.{size-text, kind-text, state-text, phase-line, ledger-text, terms-text, account-text, units-text, cents-text};
 use crate::totals::CentTotals;
 use crate::totals::UnitTotals;
 use accounts::record::Kind;
@@ -40,10 +40,20 @@ fn state_word(state: State) -> &'static str
     }
 }
 
-fn phase_line(when: &str, closed: u32, bank: u64, applied: u64, fees: u64, heap: Global) -> Result<String, AllocError>
+fn phase_line(
+    when: &str,
+    closed: u32,
+    bank: u64,
+    applied: u64,
+    fees: u64,
+    heap: Global,
+) -> Result<String, AllocError>
     ensures { λ r. ⌜ made r (λ s. string-bytes s ≡ phase-line (now (when .entry)) closed bank applied fees) ⌝ }
 {
-    format!(heap, "ledger: {when}, closed {closed}, bank {bank}, applied {applied}, fees {fees}")
+    format!(
+        heap,
+        "ledger: {when}, closed {closed}, bank {bank}, applied {applied}, fees {fees}"
+    )
 }
 
 // The ledger's phase, its closed periods and its bank, and the open period's applied credits and fees.
@@ -52,23 +62,43 @@ pub fn ledger_line(phase: Phase, closed: u32, bank: u64, heap: Global) -> Result
 {
     match phase {
         Phase::Between => phase_line("between periods", closed, bank, 0, 0, heap),
-        Phase::InPeriod { applied, fees } => phase_line("in period", closed, bank, applied, fees, heap),
+        Phase::InPeriod { applied, fees } => phase_line(
+            "in period",
+            closed,
+            bank,
+            applied,
+            fees,
+            heap,
+        ),
     }
+}
+
+fn terms_text(record: Record, heap: Global) -> Result<String, AllocError>
+    ensures { λ r. ⌜ made r (λ s. string-bytes s ≡ terms-text «record») ⌝ }
+{
+    let percentage = record.percentage;
+    let savings = record.savings;
+    let class = record.class;
+    let size = size_word(record.size);
+    let kind = kind_word(record.kind);
+    format!(
+        heap,
+        "percentage {percentage} savings {savings} class {class} size {size} kind {kind}"
+    )
 }
 
 pub fn account_line(record: Record, heap: Global) -> Result<String, AllocError>
     ensures { λ r. ⌜ made r (λ s. string-bytes s ≡ account-text «record») ⌝ }
 {
     let account = record.account;
-    let percentage = record.percentage;
-    let savings = record.savings;
-    let class = record.class;
-    let size = size_word(record.size);
-    let kind = kind_word(record.kind);
+    let terms = terms_text(record, heap)?;
     let state = state_word(record.state);
     let held = record.held;
     let last = record.last;
-    format!(heap, "account {account}: percentage {percentage} savings {savings} class {class} size {size} kind {kind} state {state} held {held} last {last}")
+    format!(
+        heap,
+        "account {account}: {terms} state {state} held {held} last {last}"
+    )
 }
 
 pub fn units_line(totals: UnitTotals, heap: Global) -> Result<String, AllocError>
@@ -79,7 +109,10 @@ pub fn units_line(totals: UnitTotals, heap: Global) -> Result<String, AllocError
     let forfeited = totals.forfeited;
     let bank = totals.bank;
     let held = totals.held;
-    format!(heap, "units: read {read} used {used} forfeited {forfeited} bank {bank} held {held}")
+    format!(
+        heap,
+        "units: read {read} used {used} forfeited {forfeited} bank {bank} held {held}"
+    )
 }
 
 pub fn cents_line(totals: CentTotals, heap: Global) -> Result<String, AllocError>
@@ -90,5 +123,8 @@ pub fn cents_line(totals: CentTotals, heap: Global) -> Result<String, AllocError
     let paid = totals.paid;
     let utility = totals.utility;
     let open = totals.open;
-    format!(heap, "cents: applied {applied} net {net} paid {paid} utility {utility} open {open}")
+    format!(
+        heap,
+        "cents: applied {applied} net {net} paid {paid} utility {utility} open {open}"
+    )
 }

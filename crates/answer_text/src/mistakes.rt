@@ -11,7 +11,8 @@ pub fn expected_words(what: Expected) -> &'static str
     ensures { λ r. ⌜ now r ≡ expected-text what ⌝ }
 {
     match what {
-        Expected::Statement => "a statement: method, book, open, rates, line, request, enrol, reading, bill, final, disburse, lapse or close",
+        Expected::Statement =>
+            "a statement: method, book, open, rates, line, request, enrol, reading, bill, final, disburse, lapse or close",
         Expected::Method => "value-stack or volumetric",
         Expected::Book => "table or image",
         Expected::Places => "the places of the table, in digits",

@@ -54,7 +54,8 @@ pub fn refusal_reason(why: Refusal) -> &'static str
         Refusal::AccountRepeated { .. } => "the account stands on an earlier line",
         Refusal::LineOfClosedAccount { .. } => "the account is closed",
         Refusal::PercentagesPass => "the percentages pass 100 percent together",
-        Refusal::LargePercentagesPass => "the percentages of large satellites pass 40 percent together",
+        Refusal::LargePercentagesPass =>
+            "the percentages of large satellites pass 40 percent together",
         Refusal::BookTooSmall => "the book has no room for the new accounts",
         Refusal::PeriodsOver => "all 1200 periods are closed",
         Refusal::ReadingTooLarge => "the reading passes 10000000000 units",

@@ -11,7 +11,13 @@ use std::alloc::AllocError;
 use std::alloc::Global;
 
 // `WORD: refused NUMBER place PLACE: reason`
-pub fn refusal_line(word: &str, number: u8, place: usize, reason: &str, heap: Global) -> Result<String, AllocError>
+pub fn refusal_line(
+    word: &str,
+    number: u8,
+    place: usize,
+    reason: &str,
+    heap: Global,
+) -> Result<String, AllocError>
     ensures { λ r. ⌜ made r (λ s. string-bytes s ≡ refused-text (now (word .entry)) number place (now (reason .entry))) ⌝ }
 {
     format!(heap, "{word}: refused {number} place {place}: {reason}")
@@ -21,5 +27,11 @@ pub fn refusal_line(word: &str, number: u8, place: usize, reason: &str, heap: Gl
 pub fn declined_line(word: &str, why: Refusal, heap: Global) -> Result<String, AllocError>
     ensures { λ r. ⌜ made r (λ s. string-bytes s ≡ declined-text (now (word .entry)) why) ⌝ }
 {
-    refusal_line(word, refusal_number(why), refusal_place(why), refusal_reason(why), heap)
+    refusal_line(
+        word,
+        refusal_number(why),
+        refusal_place(why),
+        refusal_reason(why),
+        heap,
+    )
 }

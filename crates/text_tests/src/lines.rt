@@ -1,16 +1,16 @@
 // Lines of a journal: what they say, written out again, and what each mistake lacks.
 use accounts::record::Kind;
-use accounts::record::KindPartialEq;
 use accounts::record::KindDebug;
+use accounts::record::KindPartialEq;
 use accounts::record::Size;
-use accounts::record::SizePartialEq;
 use accounts::record::SizeDebug;
+use accounts::record::SizePartialEq;
 use statements::parse::parse;
 use statements::statement::Expected;
 use statements::statement::ExpectedDebug;
-use statements::statement::ParseErrorDebug;
 use statements::statement::ExpectedPartialEq;
 use statements::statement::ParseError;
+use statements::statement::ParseErrorDebug;
 use statements::statement::Statement;
 use statements::write::write;
 use std::alloc::Global;
@@ -50,8 +50,16 @@ fn every_statement(rt: LibcRuntime) -> Result<(), Fail> {
     says(heap, "open 1 farm", "open 1 farm")?;
     says(heap, "rates", "rates")?;
     says(heap, "rates 109450 0 1000000", "rates 109450 0 1000000")?;
-    says(heap, "line 20010000001 10000 1000 2 S M", "line 20010000001 10000 1000 2 S M")?;
-    says(heap, "line 20010000002 40000 0 1 L A", "line 20010000002 40000 0 1 L A")?;
+    says(
+        heap,
+        "line 20010000001 10000 1000 2 S M",
+        "line 20010000001 10000 1000 2 S M",
+    )?;
+    says(
+        heap,
+        "line 20010000002 40000 0 1 L A",
+        "line 20010000002 40000 0 1 L A",
+    )?;
     says(heap, "request data/january.sat", "request data/january.sat")?;
     says(heap, "request höst#1", "request höst#1")?;
     says(heap, "enrol", "enrol")?;
@@ -100,12 +108,32 @@ fn spaces_and_remarks(rt: LibcRuntime) -> Result<(), Fail> {
 #[test]
 fn large_numbers(rt: LibcRuntime) -> Result<(), Fail> {
     let heap = rt.alloc();
-    says(heap, "reading 18446744073709551615", "reading 18446744073709551615")?;
-    says(heap, "reading 18446744073709551616", "reading 18446744073709551615")?;
-    says(heap, "reading 99999999999999999999999999999999999999999999", "reading 18446744073709551615")?;
+    says(
+        heap,
+        "reading 18446744073709551615",
+        "reading 18446744073709551615",
+    )?;
+    says(
+        heap,
+        "reading 18446744073709551616",
+        "reading 18446744073709551615",
+    )?;
+    says(
+        heap,
+        "reading 99999999999999999999999999999999999999999999",
+        "reading 18446744073709551615",
+    )?;
     says(heap, "open 4294967296 farm", "open 4294967295 farm")?;
-    says(heap, "line 1 4294967299 65536 256 S M", "line 1 4294967295 65535 255 S M")?;
-    says(heap, "rates 4294967295 4294967296", "rates 4294967295 4294967295")
+    says(
+        heap,
+        "line 1 4294967299 65536 256 S M",
+        "line 1 4294967295 65535 255 S M",
+    )?;
+    says(
+        heap,
+        "rates 4294967295 4294967296",
+        "rates 4294967295 4294967295",
+    )
 }
 
 #[test]
