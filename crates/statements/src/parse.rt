@@ -18,11 +18,11 @@ use crate::statement::BookKind;
 use crate::statement::Expected;
 use crate::statement::MethodName;
 use crate::statement::ParseError;
+use crate::statement::ParseErrorFromAlloc;
 use crate::statement::Statement;
 use accounts::record::Kind;
 use accounts::record::Line;
 use accounts::record::Size;
-use std::alloc::AllocError;
 use std::alloc::Global;
 
 const MOST_U32: u64 = 4_294_967_295;
@@ -30,14 +30,6 @@ const MOST_U32: u64 = 4_294_967_295;
 const MOST_U16: u64 = 65_535;
 
 const MOST_U8: u64 = 255;
-
-pub impl From<AllocError> for ParseError as ParseErrorFromAlloc {
-    ghost converts = { λ _ r. r ≡ NoMemory };
-
-    fn from(_: AllocError) -> ParseError {
-        ParseError::NoMemory
-    }
-}
 
 fn read_method(line: &mut Reader) -> Result<MethodName, ParseError>
     ensures { λ r. ⌜ r ≡ method-of (words (now (now (line .entry) .left))) ⌝ }

@@ -1,6 +1,9 @@
 // What a journal's line can say, and what is expected of a line that cannot be understood.
+ghost use mathlib.Core.Path.{_≡_};
+ghost use Rattle.statements.specs.declared.statement.ParseError.the-variants.{NoMemory};
 use accounts::record::Line;
 use accounts::record::LineDebug;
+use std::alloc::AllocError;
 
 // The crediting method.
 #[derive(Clone, Copy, PartialEq, Eq, Debug)]
@@ -66,4 +69,12 @@ pub enum Expected {
 pub enum ParseError {
     Expected(Expected),
     NoMemory,
+}
+
+pub impl From<AllocError> for ParseError as ParseErrorFromAlloc {
+    ghost converts = { λ _ r. r ≡ NoMemory };
+
+    fn from(_: AllocError) -> ParseError {
+        ParseError::NoMemory
+    }
 }
