@@ -125,9 +125,9 @@ fn held_at<B: AccountBook>(book: &B, place: usize) -> u64
 pub fn held<B: AccountBook>(book: &B) -> u128
     ensures { λ r. ⌜ (sound (now (book .entry)) → r ≡ total (λ x. x .held) (records (now (book .entry)))) ⌝ }
 {
-    let mut sum = 0u128;
+    let mut units = 0u128;
     for place in 0..book.count() {
-        sum += u128::from(held_at(book, place));
+        units += u128::from(held_at(book, place));
     }
-    sum
+    units
 }

@@ -8,5 +8,5 @@ use Rattle.posting.proofs.totals.held.Given as given
 abbrev pub Inv-loop-place : given.InvT-loop-place
 Inv-loop-place g l =
     let b = g .B·AccountBook in
-    (b .sound (l .book) → l .sum + total (λ r. r .held) (drop (l .place) (b .records (l .book))) ≡ total (λ r. r .held) (b .records (l .book)))
-    × (l .sum ≤ l .place * 18446744073709551615)
+    (b .sound (l .book) → l .units + total (λ r. r .held) (drop (l .place) (b .records (l .book))) ≡ total (λ r. r .held) (b .records (l .book)))
+    × (l .units ≤ l .place * 18446744073709551615)
