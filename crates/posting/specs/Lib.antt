@@ -1,0 +1,4 @@
+pub mod Deeds
+pub mod Plans
+pub mod Orders
+pub mod Amounts

@@ -1,0 +1,6 @@
+pub mod Cutting
+pub mod Gathering
+pub mod Listing
+pub mod Saying
+pub mod Again
+pub mod Rewriting
