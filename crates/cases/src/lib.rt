@@ -8,8 +8,7 @@ use ledger::call::Posting;
 fn shown()
     ensures cases { λ _. ⌜ Worked-postings ⌝ }
     ensures value { λ _. ⌜ posting (rated 109460) (member 1000 681) 20000 ≡ record { applied = 7454; used = 681; net = 745; fee = 6709 } ⌝ }
-{
-}
+{}
 
 // The twelve cases hold. The answer is the posting of one of them: a member with a savings rate of 10 percent who holds
 // 681 kilowatt-hours at 10.946 cents is billed 200 dollars.
