@@ -69,7 +69,7 @@ def clauses(text):
     spans = []
     for m in re.finditer(r"^\s*ghost use [^;]*;", text, re.M):
         spans.append((m.start(), m.end()))
-    for m in re.finditer(r"\b(?:requires|ensures|ghost)\*?\s*(?:[\w']+\s*)?:?\s*\{", text):
+    for m in re.finditer(r"\b(?:requires|ensures|ghost)\*?\s*(?:[\w']+\s*)?[:=]?\s*\{", text):
         depth, i = 1, m.end()
         while depth and i < len(text):
             depth += {"{": 1, "}": -1}.get(text[i], 0)

@@ -1,9 +1,8 @@
 -- How many leading rates are in range: all before the first that is not, or all of them.
-use Rattle.std.proofs.Common.{◌≡◌, ℕ, zero, suc, ◌+◌, ◌<◌, ◌≤◌, Bool, true, false, cond, eqb, List, [], ◌∷◌, length, get_or, Ok, Err, MatchBool, Result, sym, refl, ap, ◌∙◌, subst, arith}
+use Rattle.std.proofs.Common.{◌≡◌, ℕ, zero, suc, ◌+◌, ◌<◌, Bool, true, false, eqb, List, [], ◌∷◌, length, get_or, Ok, Err, refl, ◌∙◌, arith}
 use Rattle.std.proofs.lemmas.Bool.{and_parts, cond-false, cond-true, eq-eqb, leb-true, ne_eqb}
 use Rattle.std.specs.List.{prefix_len}
 use Rattle.crediting.specs.Refusals.{FirstUnfair, Told, judged}
-use Rattle.crediting.specs.declared.rates.RatesRefusal.{RatesRefusal}
 use Rattle.crediting.specs.declared.rates.RatesRefusal.TheVariants.{OutOfRange}
 use Rattle.crediting.specs.Worths.{Fair, fair}
 

@@ -1,12 +1,12 @@
--- Quotients rounded up, and the smallest number of units that a rate makes worth an amount.
+-- Why the worth of each method is lawful: quotients rounded up, and the smallest number of units that a rate makes worth an amount.
 use Rattle.std.specs.Prelude.{◌≡◌, ℕ, ◌+◌, ◌-◌, ◌*◌, ◌/◌, ◌%◌, ◌<◌, ◌≤◌, min, true, List, nat_le}
-use Rattle.std.proofs.Common.{arith, add-mul, le-div_iff_mul-le, mod-lt, mul-le-mul, mul-le-mul_right, one-mul, zero-mul, ◌∙◌, ⊎_elim}
+use Rattle.std.proofs.Common.{arith, add-mul, le-div_iff_mul-le, mod-lt, mul-le-mul, mul-le-mul_right, one-mul, refl, zero-mul, ◌∙◌, ⊎_elim}
 use Rattle.std.proofs.lemmas.Nat.{div-add-mod'}
 use Rattle.std.proofs.lemmas.Bool.{and_parts, cases_lt, leb-true}
 use Rattle.crediting.specs.Fewest.{Uses, applied_inside, uses_inside}
 use Rattle.crediting.specs.Credits.{Credited, Lawful, applied_credit}
 use Rattle.crediting.specs.Ranges.{has_worth, in_ranges, is_class}
-use Rattle.crediting.specs.Worths.{Fair, by_rates, rate_of}
+use Rattle.crediting.specs.Worths.{Fair, by_rates, cents, rate_of}
 
 -- x / r rounded up, times r, is at least x
 pub up_enough : (x r : ℕ) → 0 < r → x ≤ (x / r + min 1 (x % r)) * r
@@ -46,6 +46,10 @@ rate_lawful r top =
       rises = λ u v h _. omega (arith, mul-le-mul_right {m = u} {n = v} r h);
       bounded = λ u h. omega (arith, mul-le-mul h top);
     }
+
+-- a unit that is a cent has a lawful worth
+pub cents_lawful : (k : ℕ) → Lawful (cents k)
+cents_lawful k = record { nothing = refl; rises = λ u v h _. h; bounded = λ u h. omega arith }
 
 -- the rate of each class is in range
 pub class_rate : (rs : List ℕ) (k : ℕ) → Fair rs → is_class k ≡ true → (1 ≤ rate_of rs k) × (rate_of rs k ≤ 1_000_000)

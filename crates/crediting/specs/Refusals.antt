@@ -1,5 +1,5 @@
 -- Why a list of rates is refused.
-use Rattle.std.specs.Prelude.{◌≡◌, ℕ, ◌<◌, Bool, true, false, cond, List, length, Ok, Err, MatchBool, Result, ◌==◌, slice_index}
+use Rattle.std.specs.Prelude.{◌≡◌, ℕ, ◌<◌, true, false, cond, List, length, Ok, Err, MatchBool, Result, ◌==◌, slice_index}
 use Rattle.std.specs.List.{prefix_len}
 use Rattle.crediting.specs.declared.rates.RatesRefusal.{RatesRefusal}
 use Rattle.crediting.specs.declared.rates.RatesRefusal.TheVariants.{WrongCount, OutOfRange}

@@ -1,4 +1,6 @@
 // Crediting methods: what a satellite's units are worth in cents, and how much of a bill they pay.
+#![tactic(auto)]
+
 pub mod credit;
 pub mod method;
 pub mod rates;

@@ -1,9 +1,9 @@
 // Value Stack: a unit is a cent.
+ghost use Rattle.crediting.specs.Ceilings.{cents_lawful};
 ghost use Rattle.crediting.specs.Credits.{TheCredit, Within, applied_credit, units_used};
 ghost use Rattle.crediting.specs.Ranges.{in_ranges};
 ghost use Rattle.crediting.specs.Worths.{cents, cents_mark};
 ghost use Rattle.std.specs.Prelude.{◌≡◌, true};
-ghost use Rattle.std.proofs.Common.{rules};
 
 use super::credit::{Credit, has_worth, in_ranges};
 use super::method::CreditMethod;
@@ -14,11 +14,11 @@ pub struct ValueStack;
 impl CreditMethod for ValueStack {
     const MARK: u8 = b'C';
 
-    ghost letter = { cents-mark };
+    ghost letter = { cents_mark };
 
     ghost worth = { λ _. cents };
 
-    ghost lawful = { Prim.search rules };
+    ghost lawful = { λ s k is. cents_lawful k };
 
     fn letter() -> u8 {
         Self::MARK

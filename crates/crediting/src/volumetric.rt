@@ -51,11 +51,11 @@ impl Volumetric {
 impl CreditMethod for Volumetric {
     const MARK: u8 = b'K';
 
-    ghost letter = { kilowatt-hours-mark };
+    ghost letter = { kilowatt_hours_mark };
 
-    ghost worth = { λ s. by-rates s.rates };
+    ghost worth = { λ s. by_rates s.rates };
 
-    ghost lawful = { λ s k is. rate-lawful _ (class-rate s.rates k s.fair is).1 };
+    ghost lawful = { λ s k is. rate_lawful _ (class_rate s.rates k s.fair is).1 };
 
     fn letter() -> u8 {
         Self::MARK

@@ -1,11 +1,11 @@
 -- The loop leaves at the first rate out of range, or it has passed all sixteen.
-use Rattle.std.proofs.Common.{◌<◌, sym, arith}
+use Rattle.std.proofs.Common.{sym, arith}
 use Rattle.crediting.proofs.Leading.{accepted, refused}
 use Rattle.crediting.proofs.rates.judge.Goals as goal
 
-pub returns-then-not-is-fair : goal.returns-then-not-is-fair
-returns-then-not-is-fair c =
-    let r = refused c.args.rates.now c.loop-place.place c.if-rates-ne16.false (record { within = c.loop-place-test.true; unfair = sym c.if-not-is-fair.ensures; earlier = c.loop-place.invariant }) in
+pub returns-then-not-is_fair : goal.returns-then-not-is_fair
+returns-then-not-is_fair c =
+    let r = refused c.args.rates.now c.loop-place.place c.if-rates-ne16.false (record { within = c.loop-place-test.true; unfair = sym c.if-not-is_fair.ensures; earlier = c.loop-place.invariant }) in
     record { answer = r.0; told = r.1 }
 
 pub returns : goal.returns

@@ -6,16 +6,16 @@ use Rattle.crediting.specs.Fewest.{applied_within, billed, uses_outside}
 use Rattle.crediting.specs.Worths.{by_rates}
 use Rattle.crediting.proofs.volumetric.Volumetric.used.Goals as goal
 
-pub returns-then-not-in-ranges : goal.returns-then-not-in-ranges
-returns-then-not-in-ranges c =
-    let a = uses_outside (by_rates c.args.self.now.rates) c.args.class c.args.units c.args.bill c.args.applied c.requires (sym c.if-not-in-ranges.ensures) in
+pub returns-then-not-in_ranges : goal.returns-then-not-in_ranges
+returns-then-not-in_ranges c =
+    let a = uses_outside (by_rates c.args.self.now.rates) c.args.class c.args.units c.args.bill c.args.applied c.requires (sym c.if-not-in_ranges.ensures) in
     record { value = a.value; within = a.within; meaning = a.meaning }
 
-pub overflow-mul-applied : goal.overflow-mul-applied
-overflow-mul-applied c =
-    omega (arith, c.requires, applied_within (by_rates c.args.self.now.rates) c.args.class c.args.units c.args.bill, billed c.args.class c.args.units c.args.bill (sym c.if-not-in-ranges.ensures))
+pub overflow_mul-applied : goal.overflow_mul-applied
+overflow_mul-applied c =
+    omega (arith, c.requires, applied_within (by_rates c.args.self.now.rates) c.args.class c.args.units c.args.bill, billed c.args.class c.args.units c.args.bill (sym c.if-not-in_ranges.ensures))
 
 pub returns : goal.returns
 returns c =
-    let a = uses_rated c.args.self.now.rates c.args.class c.args.units c.args.bill c.args.applied c.from-rate.result c.div-ceil.result c.args.self.now.fair (sym c.if-not-in-ranges.ensures) c.from-rate.ensures c.requires c.div-ceil.ensures in
+    let a = uses_rated c.args.self.now.rates c.args.class c.args.units c.args.bill c.args.applied c.from-rate.result c.div_ceil.result c.args.self.now.fair (sym c.if-not-in_ranges.ensures) c.from-rate.ensures c.requires c.div_ceil.ensures in
     record { value = a.value; within = a.within; meaning = a.meaning }
