@@ -59,7 +59,7 @@ module _ (worth : ℕ → ℕ → ℕ) (s : State) (applied fees account cents :
         let n = counted x.holder.kind p.applied in
         let list = written new rs answer room side side₀ loans loans₀ b (ap (λ r. r.account) is) (ap in_range is ∙ k) says l ∙ ap (λ r. put r s.records) is in
         ap (λ i. leaves i room rs p (Billed p)) m
-        ∙ ap (λ i. leaves n i rs p (Billed p)) l.same-room
+        ∙ ap (λ i. leaves n i rs p (Billed p)) l.same_room
         ∙ ap (λ ys. leaves n s.room ys p (Billed p)) list
         ∙ ap (λ q. leaves (counted x.holder.kind q.applied) s.room (put (billed (s.closed + 1) q.used x.holder) s.records) q (Billed q)) b.posted
         ∙ sym (ap (bill_judged worth s applied fees cents) b.judged)
@@ -73,7 +73,7 @@ module _ (worth : ℕ → ℕ → ℕ) (s : State) (applied fees account cents :
         let last = ended (s.closed + 1) x.holder in
         let list = written new rs answer room side side₀ loans loans₀ b (ap (λ r. r.account) is) (ap in_range is ∙ k) says l ∙ ap (λ r. put r s.records) is in
         ap (λ i. leaves i room rs p (FinallyBilled p (held - p.used))) m
-        ∙ ap (λ i. leaves n i rs p (FinallyBilled p (held - p.used))) l.same-room
+        ∙ ap (λ i. leaves n i rs p (FinallyBilled p (held - p.used))) l.same_room
         ∙ ap (λ ys. leaves n s.room ys p (FinallyBilled p (held - p.used))) list
         ∙ ap (λ q. leaves (counted x.holder.kind q.applied) s.room (put last s.records) q (FinallyBilled q (held - q.used))) b.posted
         ∙ sym (ap (final_judged worth s applied fees cents) b.judged)

@@ -49,9 +49,9 @@ module _ (f : Record → Record) where
       record {
         stays = l.stays;
         list = l.list ∙ cond-true answer (set ys i (f r)) ys yes' ∙ set_over rs ys i r h.list e;
-        same_room = l.same-room ∙ h.same-room;
-        same_side = l.same-side ∙ h.same-side;
-        same_loans = l.same-loans ∙ h.same-loans;
+        same_room = l.same_room ∙ h.same_room;
+        same_side = l.same_side ∙ h.same_side;
+        same_loans = l.same_loans ∙ h.same_loans;
       }
 
   pub over_all : (rs : List Record) (i : ℕ) → length rs ≤ i → over rs i ≡ map f rs

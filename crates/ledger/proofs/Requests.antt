@@ -81,12 +81,12 @@ ready smallest farm room rs ls new few e =
 pub enrols : {S S' : Type 0} (smallest : ℕ) (farm : Bool) (rs rs₁ rs₂ : List Record) (room room₁ room₂ : ℕ) (side side₁ side₂ loans loans₁ loans₂ : List ℕ) (ls : List Line) (new : ℕ) → length rs ≤ room → Ok new ≡ judge_lines smallest farm room rs ls → Left S rs₁ (map unallocated rs) room₁ room side₁ side loans₁ loans → (S → every line_in_range ls ≡ true → length rs₁ + new_accounts rs₁ ls ≤ room₁ → Left S' rs₂ (enter_all rs₁ ls) room₂ room₁ side₂ side₁ loans₂ loans₁) → Left S' rs₂ (enrolled rs ls) room₂ room side₂ side loans₂ loans
 enrols smallest farm rs rs₁ rs₂ room room₁ room₂ side side₁ side₂ loans loans₁ loans₂ ls new few e cleared enters =
     let fit = ready smallest farm room rs ls new few e in
-    let fits = subst (λ xs. length xs + new_accounts xs ls ≤ room₁) (sym cleared.list) (omega (arith, cleared.same-room, fit.fits)) in
+    let fits = subst (λ xs. length xs + new_accounts xs ls ≤ room₁) (sym cleared.list) (omega (arith, cleared.same_room, fit.fits)) in
     let entered = enters cleared.stays fit.ranged fits in
     record {
       stays = entered.stays;
       list = entered.list ∙ ap (λ xs. enter_all xs ls) cleared.list;
-      same_room = entered.same-room ∙ cleared.same-room;
-      same_side = entered.same-side ∙ cleared.same-side;
-      same_loans = entered.same-loans ∙ cleared.same-loans;
+      same_room = entered.same_room ∙ cleared.same_room;
+      same_side = entered.same_side ∙ cleared.same_side;
+      same_loans = entered.same_loans ∙ cleared.same_loans;
     }

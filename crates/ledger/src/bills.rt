@@ -27,7 +27,7 @@ fn net_credit(kind: Kind, savings: u16, applied: u64) -> u64
 // What the bill of a record in range comes to.
 pub(crate) fn post<M: CreditMethod>(method: &M, account: &Record, cents: u64) -> Posting
     requires { (in_range account.now ≡ true) × (cents ≤ 1000000000) }
-    ensures value { result ≡ posting (worth method.now) account.now cents }
+    ensures value { result ≡ posting (M.worth method.now) account.now cents }
     ensures used { result.used ≤ account.now.held }
     ensures fee { result.fee ≤ counted account.now.kind result.applied }
     ensures covers { counted account.now.kind result.applied ≤ 50 * result.fee }
@@ -71,7 +71,7 @@ pub(crate) fn judge_bill<M: CreditMethod, B: AccountBook>(
     cents: u64,
 ) -> Result<Accepted, Refusal>
     requires { applied ≤ 10000000000000 }
-    ensures judged { sound book.now → Judged (worth method.now) period applied account cents (records book.now) result }
+    ensures judged { B.sound book.now → Judged (M.worth method.now) period applied account cents (B.records book.now) result }
     ensures limited { IfOk result (λ x. Limited applied x) }
 {
     if cents > 1_000_000_000 {

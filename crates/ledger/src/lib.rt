@@ -1,5 +1,7 @@
 // The net crediting ledger of one host: phases, calls, answers and refusals, over any crediting method and any account
 // book.
+#![tactic(auto)]
+
 mod bills;
 pub mod call;
 mod calls;

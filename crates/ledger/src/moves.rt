@@ -17,8 +17,8 @@ impl Ledger {
         account: u64,
         units: u64,
     ) -> Result<Done, Refusal>
-        ensures kept { sound book.old → Kept (sound book.new) (room book.new) (room book.old) (side book.new) (side book.old) (loans book.new) (loans book.old) }
-        ensures steps { sound book.old → outcome self.new (room book.new) (records book.new) result ≡ disburse (view self.old (room book.old) (records book.old)) account units }
+        ensures kept { B.sound book.old → Kept (B.sound book.new) (B.room book.new) (B.room book.old) (B.side book.new) (B.side book.old) (B.loans book.new) (B.loans book.old) }
+        ensures steps { B.sound book.old → outcome self.new (B.room book.new) (B.records book.new) result ≡ disburse (view self.old (B.room book.old) (B.records book.old)) account units }
     {
         let Some(place) = book.search(account) else {
             return Err(Refusal::NoOpenAccount);

@@ -5,23 +5,23 @@ use Rattle.ledger.specs.Records.{unallocated}
 use Rattle.ledger.proofs.Entering.{unallocated_in_range}
 use Rattle.ledger.proofs.Replacing.{replace_more, over, nth_over, over_all, nth_below}
 use Rattle.ledger.proofs.enrolment.clear_percentages.Goals as goal
-use Rattle.ledger.proofs.enrolment.clear_percentages.Goals.{in-Some, in-default}
+use Rattle.ledger.proofs.enrolment.clear_percentages.Goals.{in-Some, in_default}
 
 pub loop-place-preserved : goal.loop-place-preserved
 loop-place-preserved g c =
     let b = g.B.AccountBook in
     let rs = b.records c.args.book.now in
     let i = c.loop-place.place in
-    elim c.match-holder-at.branch [
+    elim c.match-holder_at.branch [
       | in-Some w ↦ λ s.
           let h = c.loop-place.invariant s in
           let r = w.in-Some.holder in
           let e = sym (w.in-Some.ensures.told h.stays) in
           subst (λ z. Left (b.sound z) (b.records z) (over unallocated rs (i + 1)) (b.room z) (b.room c.args.book.now) (b.side z) (b.side c.args.book.now) (b.loans z) (b.loans c.args.book.now)) (sym w.book-is)
           (replace_more unallocated rs _ _ i r _ _ _ _ _ _ _ _ _ _ h w.replace.ensures.answer w.replace.ensures.after e refl (unallocated_in_range r w.in-Some.ensures.ranged))
-      | in-default w ↦ λ s.
+      | in_default w ↦ λ s.
           let h = c.loop-place.invariant s in
-          absurd (nth_below rs i (omega (arith, c.count-place-end.ensures s, c.loop-place-test.true)) (w.in-default.ensures.told h.stays ∙ ap (λ zs. slice_get zs i) h.list ∙ nth_over unallocated rs i))
+          absurd (nth_below rs i (omega (arith, c.count-place-end.ensures s, c.loop-place-test.true)) (w.in_default.ensures.told h.stays ∙ ap (λ zs. slice_get zs i) h.list ∙ nth_over unallocated rs i))
     ]
 
 pub returns : goal.returns
@@ -30,7 +30,7 @@ returns g c s =
     record {
       stays = h.stays;
       list = h.list ∙ over_all unallocated (g.B.AccountBook.records c.args.book.now) c.loop-place.place (omega (arith, c.count-place-end.ensures s, c.loop-place-test.false));
-      same_room = h.same-room;
-      same_side = h.same-side;
-      same_loans = h.same-loans;
+      same_room = h.same_room;
+      same_side = h.same_side;
+      same_loans = h.same_loans;
     }

@@ -16,7 +16,7 @@ returns-in-None g c s k fits =
     record {
       stays = h.stays;
       list = h.list ∙ cond-true c.add.result _ rs taken ∙ sym (ap (λ o. enter o rs l) (missing l.account 0 rs none));
-      same_room = h.same-room;
-      same_side = h.same-side;
-      same_loans = h.same-loans;
+      same_room = h.same_room;
+      same_side = h.same_side;
+      same_loans = h.same_loans;
     }

@@ -18,17 +18,17 @@ loop-line-preserved g c s k fits =
     let h = c.loop-line.invariant s k fits in
     let now-fits : length rs + new_accounts rs (l ∷ left) ≤ b.room c.loop-line.book = omega (arith, h.2, at_drop_more (new_accounts rs) ls i zero_line taken) in
     let one : length rs + joins rs l ≤ b.room c.loop-line.book = omega arith in
-    let e = c.enter-line.ensures h.0.stays (every_at ls i taken k) one in
+    let e = c.enter_line.ensures h.0.stays (every_at ls i taken k) one in
     let o = record_of l.account rs in (
       record {
         stays = e.stays;
         list = refl;
-        same_room = e.same-room ∙ h.0.same-room;
-        same_side = e.same-side ∙ h.0.same-side;
-        same_loans = e.same-loans ∙ h.0.same-loans;
+        same_room = e.same_room ∙ h.0.same_room;
+        same_side = e.same_side ∙ h.0.same_side;
+        same_loans = e.same_loans ∙ h.0.same_loans;
       },
       ap (λ xs. enter_all xs left) e.list ∙ sym (at_drop_more (enter_all rs) ls i zero_line taken) ∙ h.1,
-      subst (λ xs. length xs + new_accounts xs left ≤ b.room c.enter-line.new.book) (sym e.list) (omega (arith, e.same-room, enter_fits rs l left (b.room c.loop-line.book) o refl now-fits)),
+      subst (λ xs. length xs + new_accounts xs left ≤ b.room c.enter_line.new.book) (sym e.list) (omega (arith, e.same_room, enter_fits rs l left (b.room c.loop-line.book) o refl now-fits)),
     )
 
 pub returns : goal.returns
@@ -38,7 +38,7 @@ returns g c s k fits =
     record {
       stays = h.0.stays;
       list = sym (at_drop_all (enter_all (b.records c.loop-line.book)) c.args.lines.now c.loop-line.line-index c.loop-line-test.false) ∙ h.1;
-      same_room = h.0.same-room;
-      same_side = h.0.same-side;
-      same_loans = h.0.same-loans;
+      same_room = h.0.same_room;
+      same_side = h.0.same_side;
+      same_loans = h.0.same_loans;
     }

@@ -3,14 +3,14 @@ use Rattle.ledger.specs.Lines.{names_closed}
 use Rattle.ledger.proofs.Scanning.{zero_line, first_hit, first_miss, first_end}
 use Rattle.ledger.proofs.lines.first_closed.Goals as goal
 
-pub returns-then-is-closed : goal.returns-then-is-closed
-returns-then-is-closed g c s =
-    sym (first_hit (names_closed (g.B.AccountBook.records c.args.book.now)) c.args.lines.now c.loop-i.i zero_line c.loop-i-test.true (sym (c.if-is-closed.ensures s)))
+pub returns-then-is_closed : goal.returns-then-is_closed
+returns-then-is_closed g c s =
+    sym (first_hit (names_closed (g.B.AccountBook.records c.args.book.now)) c.args.lines.now c.loop-i.i zero_line c.loop-i-test.true (sym (c.if-is_closed.ensures s)))
     ∙ c.loop-i.invariant s
 
 pub loop-i-preserved : goal.loop-i-preserved
 loop-i-preserved g c s =
-    sym (first_miss (names_closed (g.B.AccountBook.records c.args.book.now)) c.args.lines.now c.loop-i.i zero_line c.loop-i-test.true (sym (c.if-is-closed.ensures s)))
+    sym (first_miss (names_closed (g.B.AccountBook.records c.args.book.now)) c.args.lines.now c.loop-i.i zero_line c.loop-i-test.true (sym (c.if-is_closed.ensures s)))
     ∙ c.loop-i.invariant s
 
 pub returns : goal.returns

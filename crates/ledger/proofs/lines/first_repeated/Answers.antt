@@ -4,8 +4,8 @@ use Rattle.ledger.specs.Lines.{line_accounts}
 use Rattle.ledger.proofs.Scanning.{zero_line, repeated_hit, repeated_miss, repeated_end}
 use Rattle.ledger.proofs.lines.first_repeated.Goals as goal
 
-pub returns-then-stands-on : goal.returns-then-stands-on
-returns-then-stands-on c =
+pub returns-then-stands_on : goal.returns-then-stands_on
+returns-then-stands_on c =
     let ls = c.args.lines.now in
     let i = c.loop-i.i in
     let e : present (get_or ls i zero_line).account (line_accounts (take i ls)) ≡ true = search rules in

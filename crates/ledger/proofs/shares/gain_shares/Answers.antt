@@ -5,7 +5,7 @@ use Rattle.ledger.specs.Records.{gaining, holding}
 use Rattle.ledger.proofs.Replacing.{replace_more, over, nth_over, over_all, nth_below}
 use Rattle.ledger.proofs.Sharing.{gains_in_range}
 use Rattle.ledger.proofs.shares.gain_shares.Goals as goal
-use Rattle.ledger.proofs.shares.gain_shares.Goals.{in-Some, in-default}
+use Rattle.ledger.proofs.shares.gain_shares.Goals.{in-Some, in_default}
 
 pub loop-place-preserved : goal.loop-place-preserved
 loop-place-preserved g c =
@@ -13,7 +13,7 @@ loop-place-preserved g c =
     let rs = b.records c.args.book.now in
     let i = c.loop-place.place in
     let u = c.args.units in
-    elim c.match-holder-at.branch [
+    elim c.match-holder_at.branch [
       | in-Some w ↦ λ s f.
           let h = c.loop-place.invariant s f in
           let r = w.in-Some.holder in
@@ -23,9 +23,9 @@ loop-place-preserved g c =
           let k = gains_in_range u rs i r f (sym (nth_over (gaining u) rs i) ∙ sym (ap (λ zs. slice_get zs i) h.list) ∙ e) w.in-Some.ensures.ranged in
           subst (λ z. Left (b.sound z) (b.records z) (over (gaining u) rs (i + 1)) (b.room z) (b.room c.args.book.now) (b.side z) (b.side c.args.book.now) (b.loans z) (b.loans c.args.book.now)) (sym w.book-is)
           (replace_more (gaining u) rs _ _ i r _ _ _ _ _ _ _ _ _ _ h answer after e refl k)
-      | in-default w ↦ λ s f.
+      | in_default w ↦ λ s f.
           let h = c.loop-place.invariant s f in
-          absurd (nth_below rs i (omega (arith, c.count-place-end.ensures s, c.loop-place-test.true)) (w.in-default.ensures.told h.stays ∙ ap (λ zs. slice_get zs i) h.list ∙ nth_over (gaining u) rs i))
+          absurd (nth_below rs i (omega (arith, c.count-place-end.ensures s, c.loop-place-test.true)) (w.in_default.ensures.told h.stays ∙ ap (λ zs. slice_get zs i) h.list ∙ nth_over (gaining u) rs i))
     ]
 
 pub returns : goal.returns
@@ -34,7 +34,7 @@ returns g c s f =
     record {
       stays = h.stays;
       list = h.list ∙ over_all (gaining c.args.units) (g.B.AccountBook.records c.args.book.now) c.loop-place.place (omega (arith, c.count-place-end.ensures s, c.loop-place-test.false));
-      same_room = h.same-room;
-      same_side = h.same-side;
-      same_loans = h.same-loans;
+      same_room = h.same_room;
+      same_side = h.same_side;
+      same_loans = h.same_loans;
     }

@@ -5,10 +5,10 @@ use Rattle.ledger.proofs.Replacing.{nth_below}
 use Rattle.ledger.proofs.Sharing.{share_more, past_whole, past_holding, share_all}
 use Rattle.ledger.proofs.shares.judge_shares.Goals as goal
 
-pub returns-in-default : goal.returns-in-default
-returns-in-default g c =
+pub returns-in_default : goal.returns-in_default
+returns-in_default g c =
     record {
-      judged = λ s. absurd (nth_below (g.B.AccountBook.records c.args.book.now) c.loop-place.place (omega (arith, c.count-place-end.ensures s, c.loop-place-test.true)) (c.in-default.ensures.told s));
+      judged = λ s. absurd (nth_below (g.B.AccountBook.records c.args.book.now) c.loop-place.place (omega (arith, c.count-place-end.ensures s, c.loop-place-test.true)) (c.in_default.ensures.told s));
       bound = tt;
     }
 

@@ -5,8 +5,8 @@ use Rattle.ledger.specs.Views.{view}
 use Rattle.ledger.proofs.Posting.{bill-posted, final-posted}
 use Rattle.ledger.proofs.ledger.Ledger.perform.Goals as goal
 
-pub returns-in-ok-bill : goal.returns-in-ok-bill
-returns-in-ok-bill g c =
+pub returns-in_ok-bill-in-InPeriod-Bill : goal.returns-in_ok-bill-in-InPeriod-Bill
+returns-in_ok-bill-in-InPeriod-Bill g c =
     let b = g.B.AccountBook in
     let l = c.args.self.now in
     let v = view l (b.room c.args.book.now) (b.records c.args.book.now) in
@@ -15,14 +15,14 @@ returns-in-ok-bill g c =
     record {
       kept = λ s.
           let h = c.replace.ensures.after s in
-          record { stays = h.stays; same_room = h.same-room; same_side = h.same-side; same_loans = h.same-loans };
+          record { stays = h.stays; same_room = h.same_room; same_side = h.same_side; same_loans = h.same_loans };
       steps = λ s.
-          bill-posted (g.M.CreditMethod.worth a.method) v a.applied a.fees a.account a.cents c.in-ok-bill.bill c.after-bill.result _ _ _ _ _ _ _ _ (c.in-ok-bill.ensures.judged s) period c.counted-credit.ensures c.after-bill.ensures (c.replace.ensures.answer s) (c.replace.ensures.after s)
+          bill-posted (g.M.CreditMethod.worth a.method) v a.applied a.fees a.account a.cents c.in_ok-bill-in-InPeriod-Bill.bill c.after_bill.result _ _ _ _ _ _ _ _ (c.in_ok-bill-in-InPeriod-Bill.ensures.judged s) period c.counted_credit.ensures c.after_bill.ensures (c.replace.ensures.answer s) (c.replace.ensures.after s)
           ∙ sym (ap₂ (at_phase g.M.CreditMethod.worth v) a.is-0 a.is-1);
     }
 
-pub returns-in-ok-bill-2 : goal.returns-in-ok-bill-2
-returns-in-ok-bill-2 g c =
+pub returns-in_ok-bill-in-InPeriod-FinalBill : goal.returns-in_ok-bill-in-InPeriod-FinalBill
+returns-in_ok-bill-in-InPeriod-FinalBill g c =
     let b = g.B.AccountBook in
     let l = c.args.self.now in
     let v = view l (b.room c.args.book.now) (b.records c.args.book.now) in
@@ -32,8 +32,8 @@ returns-in-ok-bill-2 g c =
     record {
       kept = λ s.
           let h = replaces.after s in
-          record { stays = h.stays; same_room = h.same-room; same_side = h.same-side; same_loans = h.same-loans };
+          record { stays = h.stays; same_room = h.same_room; same_side = h.same_side; same_loans = h.same_loans };
       steps = λ s.
-          final-posted (g.M.CreditMethod.worth a.method) v a.applied a.fees a.account a.cents c.in-ok-bill-2.bill c.after-final-bill.result _ _ _ _ _ _ _ _ (c.in-ok-bill-2.ensures.judged s) period c.counted-credit-in-InPeriod-FinalBill.ensures c.after-final-bill.ensures (replaces.answer s) (replaces.after s)
+          final-posted (g.M.CreditMethod.worth a.method) v a.applied a.fees a.account a.cents c.in_ok-bill-in-InPeriod-FinalBill.bill c.after_final_bill.result _ _ _ _ _ _ _ _ (c.in_ok-bill-in-InPeriod-FinalBill.ensures.judged s) period c.counted_credit-in-InPeriod-FinalBill.ensures c.after_final_bill.ensures (replaces.answer s) (replaces.after s)
           ∙ sym (ap₂ (at_phase g.M.CreditMethod.worth v) a.is-0 a.is-1);
     }
