@@ -1,18 +1,18 @@
 -- What the lines of a request make of the records.
-use Rattle.std.proofs.Common.{◌≡◌, ℕ, zero, suc, ◌+◌, ◌<◌, ◌≤◌, Bool, true, false, cond, not, ◌&&◌, ◌||◌, eqb, ltb, List, [], ◌∷◌, ◌++◌, map, length, get_or, is_some, Some, None, Option, sym, refl, ap, ◌∙◌, subst, arith}
+use Rattle.std.proofs.Common.{◌≡◌, ℕ, zero, suc, ◌+◌, ◌<◌, ◌≤◌, true, false, cond, not, ltb, List, [], ◌∷◌, ◌++◌, map, length, get_or, is_some, Some, None, Option, sym, refl, ap, ◌∙◌, arith}
 use Rattle.std.proofs.lemmas.Bool.{and_from, and_parts, lt-ltb, not-false}
 use Rattle.std.proofs.lemmas.List.{length_push, map_push}
 use Rattle.std.proofs.lemmas.Bool.Decides.{nat_tests}
 use Rattle.accounts.proofs.Finding.{found_present, present_push}
-use Rattle.accounts.specs.Books.{accounts, find, present, takes, every, added}
+use Rattle.accounts.specs.Books.{accounts, find, present, takes, every}
 use Rattle.accounts.specs.declared.record.Line.{Line}
 use Rattle.accounts.specs.declared.record.Record.{Record}
 use Rattle.accounts.specs.Ranges.{in_range, line_in_range}
-use Rattle.ledger.specs.Lines.{is_new, joins, new_accounts, enter, enter_all}
+use Rattle.ledger.specs.Lines.{joins, new_accounts, enter}
 use Rattle.ledger.specs.Sums.{total, first_from}
 use Rattle.ledger.proofs.Found.{present_found, accounts_put, put_length, nowhere}
 use Rattle.ledger.proofs.Scanning.{zero_line}
-use Rattle.ledger.specs.Records.{record_of, put, unallocated, allocated, joining}
+use Rattle.ledger.specs.Records.{record_of, unallocated, allocated, joining}
 
 pub unallocated_in_range : (r : Record) → in_range r ≡ true → in_range (unallocated r) ≡ true
 unallocated_in_range r h = grind (arith, nat_tests)

@@ -1,10 +1,9 @@
 -- Refusals of bills and disbursements to accounts that a search does not find.
-use Rattle.std.proofs.Common.{◌≡◌, ℕ, ◌≤◌, ltb, List, None, Err, refl, ap, ◌∙◌}
+use Rattle.std.proofs.Common.{◌≡◌, ℕ, ◌≤◌, ltb, List, None, Err, ap, ◌∙◌}
 use Rattle.std.proofs.lemmas.Bool.{cond-false, le-ltb}
 use Rattle.accounts.specs.declared.record.Record.{Record}
 use Rattle.accounts.specs.Books.{accounts, find}
 use Rattle.ledger.specs.declared.call.Refusal.TheVariants.{NoOpenAccount}
-use Rattle.ledger.specs.Records.{record_of}
 use Rattle.ledger.specs.Steps.{judge_cents, judge_record}
 use Rattle.ledger.proofs.Locating.{missing}
 

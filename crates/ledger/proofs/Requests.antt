@@ -6,7 +6,7 @@ use Rattle.std.proofs.lemmas.Bool.Decides.{nat_tests}
 use Rattle.accounts.proofs.Finding.{present_push}
 use Rattle.accounts.specs.declared.record.Line.{Line}
 use Rattle.accounts.specs.declared.record.Record.{Record}
-use Rattle.accounts.specs.Books.{accounts, present, distinct, every, Left}
+use Rattle.accounts.specs.Books.{present, distinct, every, Left}
 use Rattle.accounts.specs.Ranges.{line_in_range}
 use Rattle.ledger.specs.declared.call.Refusal.{Refusal}
 use Rattle.ledger.specs.declared.call.Refusal.TheVariants as why

@@ -1,5 +1,5 @@
 -- A ledger with the records of its book, apart from how either is kept.
-use Rattle.std.specs.Prelude.{ℕ, ◌+◌, ◌*◌, ◌≤◌, Bool, List, Ok, Err, Result}
+use Rattle.std.specs.Prelude.{ℕ, Bool, List, Ok, Err, Result}
 use Rattle.accounts.specs.declared.record.Record.{Record}
 use Rattle.ledger.specs.declared.call.Done.{Done}
 use Rattle.ledger.specs.declared.call.Refusal.{Refusal}

@@ -1,11 +1,10 @@
 -- What each call does to a ledger and its book, and what it answers.
-use Rattle.std.specs.Prelude.{ℕ, ◌+◌, ◌-◌, Bool, true, false, cond, ◌&&◌, ◌||◌, ltb, List, [], ◌∷◌, map, length, Some, None, Ok, Err, vec_items, Option, Result, ◌==◌, nat_le, nat_lt}
+use Rattle.std.specs.Prelude.{ℕ, ◌+◌, ◌-◌, Bool, cond, ◌||◌, List, map, Some, None, Ok, Err, vec_items, Option, Result, ◌==◌, nat_le, nat_lt}
 use Rattle.accounts.specs.declared.record.Line.{Line}
 use Rattle.accounts.specs.declared.record.Record.{Record}
 use Rattle.crediting.specs.Credits.{applied_credit, units_used}
 use Rattle.ledger.specs.declared.call.Call.{Call}
 use Rattle.ledger.specs.declared.call.Call.TheVariants.{Enrol, Reading, Bill, FinalBill, Disburse, Lapse, Close}
-use Rattle.ledger.specs.declared.call.Done.{Done}
 use Rattle.ledger.specs.declared.call.Done.TheVariants.{Enrolled, Opened, Billed, FinallyBilled, Disbursed, Lapsed, Closed}
 use Rattle.ledger.specs.declared.call.Posting.{Posting}
 use Rattle.ledger.specs.declared.call.Refusal.{Refusal}
@@ -63,7 +62,7 @@ shares units rs = total (λ r. share units r.percentage) rs
 abbrev pub foreign_to_reading : ℕ → List Record → Bool
 foreign_to_reading units rs =
     nat_lt 100000 (total (λ r. r.percentage) rs)
-    || some (λ r. ltb 1000000000000 (r.held + share units r.percentage)) rs
+    || some (λ r. nat_lt 1000000000000 (r.held + share units r.percentage)) rs
 
 abbrev pub reading : State → ℕ → Outcome
 reading s units =

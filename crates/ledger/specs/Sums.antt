@@ -1,5 +1,5 @@
 -- Sums over lists, and the first place at which a test passes.
-use Rattle.std.specs.Prelude.{ℕ, ◌+◌, Bool, true, false, cond, ◌||◌, List, [], ◌∷◌, Some, None, Option}
+use Rattle.std.specs.Prelude.{ℕ, ◌+◌, Bool, false, cond, ◌||◌, List, [], ◌∷◌, Some, None, Option}
 
 -- a number of each element, added up
 abbrev pub total : {X : Type 0} → (X → ℕ) → List X → ℕ

@@ -1,4 +1,4 @@
-use Rattle.std.proofs.Common.{◌≡◌, ◌*◌, ap, arith}
+use Rattle.std.proofs.Common.{◌*◌, ap, arith}
 use Rattle.accounts.specs.declared.record.Kind.TheVariants.{Member}
 use Rattle.ledger.proofs.Fees.{net_within}
 use Rattle.ledger.proofs.bills.net_credit.Goals as goal

@@ -1,4 +1,4 @@
-use Rattle.std.proofs.Common.{◌≡◌, ◌-◌, ◌*◌, ◌≤◌, sym, subst, arith, rules}
+use Rattle.std.proofs.Common.{◌-◌, ◌*◌, ◌≤◌, sym, subst, arith, rules}
 use Rattle.crediting.specs.Fewest.{used_within}
 use Rattle.ledger.specs.Rules.{counted}
 use Rattle.ledger.proofs.Fees.{fee_covers, fee_counted}

@@ -1,6 +1,6 @@
-use Rattle.std.proofs.Common.{◌≡◌, ◌+◌, ◌≤◌, ◌∷◌, length, get_or, drop, sym, refl, ap, ◌∙◌, subst, arith}
+use Rattle.std.proofs.Common.{◌+◌, ◌≤◌, ◌∷◌, length, get_or, drop, sym, refl, ap, ◌∙◌, subst, arith}
 use Rattle.std.proofs.lemmas.List.{at_drop_more, at_drop_all}
-use Rattle.ledger.specs.Lines.{enter, enter_all, joins, new_accounts}
+use Rattle.ledger.specs.Lines.{enter_all, joins, new_accounts}
 use Rattle.ledger.specs.Records.{record_of}
 use Rattle.ledger.proofs.Entering.{every_at, enter_fits}
 use Rattle.ledger.proofs.Scanning.{zero_line}

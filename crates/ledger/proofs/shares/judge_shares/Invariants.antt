@@ -1,4 +1,4 @@
-use Rattle.std.proofs.Common.{◌≡◌, ◌+◌, ◌*◌, ◌≤◌, length, drop}
+use Rattle.std.proofs.Common.{◌*◌, ◌≤◌, drop}
 use Rattle.ledger.proofs.Sharing.{LeftToShare}
 use Rattle.ledger.proofs.shares.judge_shares.Given as goal
 

@@ -1,5 +1,4 @@
 use Rattle.std.proofs.Common.{Ok, ap, ◌∙◌}
-use Rattle.ledger.specs.Lines.{enrolled}
 use Rattle.ledger.specs.Steps.{enrol_judged}
 use Rattle.ledger.specs.Views.{outcome, view}
 use Rattle.ledger.specs.declared.call.Done.TheVariants.{Enrolled}
