@@ -1,5 +1,5 @@
 -- Encoding and decoding are each other's inverse on records in range.
-use Rattle.std.proofs.Common.{◌≡◌, ℕ, ◌+◌, ◌*◌, ◌^◌, ◌<◌, ◌≤◌, Bool, true, false, cond, ◌&&◌, eqb, leb, List, [], ◌∷◌, ◌++◌, length, get_or, take, drop, replicate, Some, None, Option, sym, refl, ap, ◌∙◌, subst, arith}
+use Rattle.std.proofs.Common.{◌≡◌, ℕ, ◌+◌, ◌^◌, ◌<◌, ◌≤◌, true, ◌&&◌, eqb, List, [], ◌∷◌, ◌++◌, length, get_or, drop, replicate, Some, None, Option, sym, refl, ap, ◌∙◌, subst, arith}
 use Rattle.std.proofs.lemmas.Bool.{and_from, and_parts, eq-eqb, eqb-true, cond-true, cond_both}
 use Rattle.std.proofs.lemmas.Bool.Decides.{nat_tests}
 use Rattle.std.proofs.lemmas.List.{take-append-drop, drop-drop, length-take-le, length-drop, drop_more, drop_all}
@@ -14,7 +14,7 @@ use Rattle.accounts.specs.declared.record.State.TheVariants.{Open, Closed}
 use Rattle.accounts.specs.declared.record.Record.{Record}
 use Rattle.accounts.specs.Ranges.{in_range}
 use Rattle.record_codec.specs.Bytes.{le, worth, part}
-use Rattle.record_codec.specs.Codec.{size_letter, size_of, kind_letter, kind_of, state_byte, state_of, encoded, ranged, marked, fields_in, framed, decoded}
+use Rattle.record_codec.specs.Codec.{size_letter, size_of, kind_letter, kind_of, state_byte, state_of, encoded, ranged, marked, fields_in, decoded}
 use Rattle.record_codec.proofs.Worth.{worth_le, le_worth}
 
 -- that bytes hold a record, field by field; its numbers may be out of range

@@ -1,14 +1,13 @@
 -- Encoding and decoding field by field.
-use Rattle.std.proofs.Common.{◌≡◌, ℕ, ◌+◌, ◌<◌, ◌≤◌, Bool, true, false, cond, ◌&&◌, eqb, List, [], ◌∷◌, ◌++◌, length, get_or, take, drop, set, replicate, Some, None, Option, sym, refl, ap, ◌∙◌, subst, arith}
+use Rattle.std.proofs.Common.{◌≡◌, ℕ, ◌<◌, ◌≤◌, List, get_or, take, drop, set, replicate, Some, sym, refl, ap, ◌∙◌, arith}
 use Rattle.std.proofs.lemmas.List.{take_all, length-take}
 use Rattle.std.specs.List.{AllByRecursion as All}
 use Rattle.accounts.specs.declared.record.Size.{Size}
 use Rattle.accounts.specs.declared.record.Kind.{Kind}
 use Rattle.accounts.specs.declared.record.State.{State}
 use Rattle.accounts.specs.declared.record.Record.{Record}
-use Rattle.accounts.specs.Ranges.{in_range}
 use Rattle.record_codec.specs.Bytes.{le, worth, part, written}
-use Rattle.record_codec.specs.Codec.{size_letter, size_of, kind_letter, kind_of, state_byte, state_of, encoded, ranged, marked, fields_in, decoded}
+use Rattle.record_codec.specs.Codec.{size_letter, size_of, kind_letter, kind_of, state_byte, state_of, encoded, ranged, fields_in, decoded}
 use Rattle.record_codec.proofs.Inverse.{holds_decoded, encoded_from}
 
 -- what a read of a number tells

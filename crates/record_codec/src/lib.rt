@@ -1,4 +1,6 @@
 // An account record as 36 bytes.
+#![tactic(auto)]
+
 pub mod codec;
 pub mod marks;
 pub mod numbers;

@@ -1,4 +1,6 @@
 // An account book in a table of records that the caller lends.
+#![tactic(auto)]
+
 ghost use Rattle.std.specs.Prelude.{◌≡◌, ℕ, ◌<◌, min, true, List, [], ◌∷◌, ◌++◌, length, is_some, if◌then◌else◌, slice_index_or, slice_set};
 ghost use Rattle.std.specs.List.{slice_get};
 ghost use Rattle.accounts.specs.Books.{accounts, find, present, takes, added, suits, replaced, Left};
@@ -92,13 +94,13 @@ impl<'a> TableBook<'a> {
 }
 
 impl<'a> AccountBook for TableBook<'a> {
-    ghost records = { records-of };
+    ghost records = { records_of };
 
     ghost room = { room_of };
 
     ghost side = { λ b. [] };
 
-    ghost loans = { λ b. loan-of b ∷ [] };
+    ghost loans = { λ b. loan_of b ∷ [] };
 
     ghost sound = { Sound };
 

@@ -3,4 +3,4 @@ use Rattle.record_codec.proofs.numbers.low_four.Goals as goal
 
 pub returns : goal.returns
 unfolding le
-returns c = c.put-number.ensures
+returns c = c.put_number.ensures

@@ -11,8 +11,8 @@ loop-i-init c =
     let z : w - w ≡ 0 = omega arith in
     (sym (worth_end (take 8 bs) w (omega arith)), subst (λ k. 0 < 256 ^ k) (sym z) (omega arith))
 
-pub overflow-mul-sum : goal.overflow-mul-sum
-overflow-mul-sum c =
+pub overflow_mul-sum : goal.overflow_mul-sum
+overflow_mul-sum c =
     let w = c.min-width.result in
     let i = c.loop-i.i in
     let b = bound_step c.loop-i.sum 0 w i c.loop-i.invariant.1 (omega arith) (omega arith) (omega arith) in

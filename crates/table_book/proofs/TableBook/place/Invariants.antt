@@ -1,4 +1,4 @@
-use Rattle.std.proofs.Common.{◌≡◌, ℕ, ◌+◌, drop}
+use Rattle.std.proofs.Common.{◌≡◌, drop}
 use Rattle.accounts.specs.Books.{accounts, find_from, find}
 use Rattle.table_book.specs.Tables.{records_of}
 use Rattle.table_book.proofs.TableBook.place.Given as goal
