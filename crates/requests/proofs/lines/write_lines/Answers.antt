@@ -3,8 +3,8 @@ use Rattle.requests.proofs.Judged.{pairs_placed, table_more, table_all, no_line_
 use Rattle.requests.proofs.Readings.{in_order}
 use Rattle.requests.proofs.lines.write_lines.Goals as goal
 
-pub read-line-requires : goal.read-line-requires
-read-line-requires c =
+pub read_line-requires : goal.read_line-requires
+read_line-requires c =
     let o = in_order c.args.file.now (length c.args.table.now) c.args.lines c.requires in
     record { within = omega (arith, o.head.within); placed = pairs_placed _ _ _ _ _ o.placed (omega arith) (omega arith) }
 
@@ -12,8 +12,8 @@ pub bounds-table-place : goal.bounds-table-place
 bounds-table-place c =
     omega (arith, (in_order c.args.file.now (length c.args.table.now) c.args.lines c.requires).room)
 
-pub offset-bounds-table-place : goal.offset-bounds-table-place
-offset-bounds-table-place c =
+pub offset_bounds-table-place : goal.offset_bounds-table-place
+offset_bounds-table-place c =
     omega (arith, (in_order c.args.file.now (length c.args.table.now) c.args.lines c.requires).head.most)
 
 pub loop-place-preserved : goal.loop-place-preserved
@@ -30,4 +30,4 @@ returns c =
 pub unreachable-requires : goal.unreachable-requires
 unreachable-requires c =
     let o = in_order c.args.file.now (length c.args.table.now) c.args.lines c.requires in
-    no_line_fault c.args.file.now c.args.lines o.formed c.args.table.now c.loop-place.place c.read-line.result c.loop-place-test.true c.read-line.ensures c.in-default.not-Ok
+    no_line_fault c.args.file.now c.args.lines o.formed c.args.table.now c.loop-place.place c.read_line.result c.loop-place-test.true c.read_line.ensures c.in_default.not-Ok
