@@ -1,4 +1,6 @@
 // Posts a month: reads rates and readings, and prints what each account is credited, with totals.
+#![tactic(auto)]
+
 use cabinet_month::dollars::Dollars;
 use cabinet_month::entry::{Entry, Fault, Mark, Reading, read_entry};
 use cabinet_month::posting::{Posting, Totals, post, total};

@@ -1,4 +1,6 @@
 // Tests of a month's lines and of how amounts are written.
+#![tactic(auto)]
+
 #[cfg(test)]
 mod tests {
     use cabinet_month::dollars::Dollars;

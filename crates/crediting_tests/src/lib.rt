@@ -1,4 +1,6 @@
 // Tests of the crediting methods at the edges of every range.
+#![tactic(auto)]
+
 #[cfg(test)]
 mod tests {
     use crediting::credit::Credit;
