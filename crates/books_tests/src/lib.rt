@@ -1,4 +1,6 @@
 // The table book and the image book on examples.
+#![tactic(auto)]
+
 #[cfg(test)]
 mod damage;
 #[cfg(test)]

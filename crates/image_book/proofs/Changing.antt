@@ -1,5 +1,5 @@
 -- Adding and replacing in an image that opens.
-use Rattle.std.proofs.Common.{◌≡◌, ℕ, suc, ◌+◌, ◌-◌, ◌*◌, ◌/◌, ◌^◌, ◌<◌, ◌≤◌, min, true, List, [], ◌∷◌, ◌++◌, length, set, is_some, Some, None, Option, sym, refl, ap, ◌∙◌, subst, ⊎_elim, add-one, arith, below_more}
+use Rattle.std.proofs.Common.{◌≡◌, ℕ, ◌+◌, ◌-◌, ◌/◌, ◌^◌, ◌<◌, ◌≤◌, min, true, List, [], ◌∷◌, ◌++◌, length, set, is_some, Some, ap, ◌∙◌, ⊎_elim, add-one, arith, below_more}
 use Rattle.std.proofs.lemmas.Bool.{cases_eq}
 use Rattle.accounts.specs.declared.record.Record.{Record}
 use Rattle.accounts.specs.Ranges.{in_range}
@@ -8,8 +8,7 @@ use Rattle.accounts.proofs.Keeping.{proper_add, proper_replace}
 use Rattle.record_codec.specs.Bytes.{le, worth, written}
 use Rattle.record_codec.specs.Codec.{encoded, decoded}
 use Rattle.record_codec.proofs.Inverse.{decoded_encoded}
-use Rattle.image_book.specs.Images.{count_in, capacity_of, start_of, slot, held}
-use Rattle.image_book.specs.Reading.{Legible}
+use Rattle.image_book.specs.Images.{capacity_of, start_of, slot, held}
 use Rattle.image_book.proofs.Places.{held_more}
 use Rattle.image_book.proofs.Opening.{Open, proper_open}
 use Rattle.image_book.proofs.Writing.{held_same, legible_same, held_set, length_put, slot_put, slot_other, count_put, length_count, slot_count, count_count}
@@ -40,13 +39,13 @@ module _ (bs : List ℕ) (n room : ℕ) (o : Open bs n room) (r : Record) (ok : 
     last : decoded (slot n (with_added n r bs)) ≡ Some r
     last = ap decoded (slots n ∙ slot_put bs n within r) ∙ decoded_encoded r ok
 
-    pub list-added : held (n + 1) (with_added n r bs) ≡ held n bs ++ r ∷ []
-    list-added =
+    pub list_added : held (n + 1) (with_added n r bs) ≡ held n bs ++ r ∷ []
+    list_added =
         ap (λ k. held k (with_added n r bs)) (add-one n)
         ∙ (held_more (with_added n r bs) n r last ∙ ap (λ rs. rs ++ r ∷ []) (held_same n bs (with_added n r bs) before))
 
-    pub open-added : Open (with_added n r bs) (n + 1) room
-    open-added =
+    pub open_added : Open (with_added n r bs) (n + 1) room
+    open_added =
         let e₁ = length_put bs n within r in
         let e₂ = length_count (with_record n r bs) long (n + 1) small in
         let l = long in
@@ -57,21 +56,21 @@ module _ (bs : List ℕ) (n room : ℕ) (o : Open bs n room) (r : Record) (ok : 
           whole = ap (λ k. min 4096 ((k - 4) / 36)) (e₂ ∙ e₁) ∙ o.whole;
           fits = omega arith;
           legible = below_more (λ i. is_some (decoded (slot i (with_added n r bs))) ≡ true) n (legible_same n bs (with_added n r bs) before o.legible) (ap is_some last);
-          apart = ap (λ rs. distinct (accounts rs)) list-added ∙ p.apart;
+          apart = ap (λ rs. distinct (accounts rs)) list_added ∙ p.apart;
         }
 
   module _ (i : ℕ) (h : i < n) (t : suits (held n bs) i r ≡ true) where
     inside : i < capacity_of bs
     inside = let w = o.whole in let f = o.fits in omega arith
 
-    put-there : decoded (slot i (with_record i r bs)) ≡ Some r
-    put-there = ap decoded (slot_put bs i inside r) ∙ decoded_encoded r ok
+    put_there : decoded (slot i (with_record i r bs)) ≡ Some r
+    put_there = ap decoded (slot_put bs i inside r) ∙ decoded_encoded r ok
 
-    pub list-replaced : held n (with_record i r bs) ≡ set (held n bs) i r
-    list-replaced = held_set n i bs (with_record i r bs) r h o.legible put-there (slot_other bs i inside r)
+    pub list_replaced : held n (with_record i r bs) ≡ set (held n bs) i r
+    list_replaced = held_set n i bs (with_record i r bs) r h o.legible put_there (slot_other bs i inside r)
 
-    pub open-replaced : Open (with_record i r bs) n room
-    open-replaced =
+    pub open_replaced : Open (with_record i r bs) n room
+    open_replaced =
         let e = length_put bs i inside r in
         let l = o.long in
         let p = proper_replace (held n bs) room i r (proper_open bs n room o) t in
@@ -82,8 +81,8 @@ module _ (bs : List ℕ) (n room : ℕ) (o : Open bs n room) (r : Record) (ok : 
           fits = o.fits;
           legible = λ j k.
               ⊎_elim
-              (λ q. ap (λ m. is_some (decoded (slot m (with_record i r bs)))) q ∙ ap is_some put-there)
+              (λ q. ap (λ m. is_some (decoded (slot m (with_record i r bs)))) q ∙ ap is_some put_there)
               (λ q. ap (λ s. is_some (decoded s)) (slot_other bs i inside r j q) ∙ o.legible j k)
               (cases_eq j i);
-          apart = ap (λ rs. distinct (accounts rs)) list-replaced ∙ p.apart;
+          apart = ap (λ rs. distinct (accounts rs)) list_replaced ∙ p.apart;
         }

@@ -1,5 +1,5 @@
 -- What an image is refused for.
-use Rattle.std.proofs.Common.{◌≡◌, ℕ, ◌<◌, ◌≤◌, Bool, true, false, cond, not, ◌||◌, ltb, List, length, Some, None, Option, sym, refl, ap, ◌∙◌, arith}
+use Rattle.std.proofs.Common.{◌≡◌, ℕ, ◌≤◌, Bool, true, false, not, ltb, List, length, Some, None, Option, ap, ◌∙◌, arith}
 use Rattle.std.proofs.lemmas.Bool.{cond_both, cond-false, or_parts, or_from, ltb-false, le-ltb}
 use Rattle.image_book.specs.Images.{count_in, capacity_of}
 use Rattle.image_book.specs.Refusals.{lacks_room, start_refusal, first_unfit, seventh, open_refusal}

@@ -1,12 +1,11 @@
 -- An image that opens, and the book that it holds.
-use Rattle.std.proofs.Common.{◌≡◌, ℕ, ◌+◌, ◌<◌, ◌≤◌, Bool, true, false, cond, List, length, is_some, is_err, Some, None, Ok, Err, Option, Result, sym, refl, ap, ◌∙◌, subst, arith}
+use Rattle.std.proofs.Common.{◌≡◌, ℕ, ◌<◌, ◌≤◌, Bool, true, false, cond, List, length, is_some, is_err, Some, None, Ok, Err, Option, Result, sym, refl, ap, ◌∙◌, subst, arith}
 use Rattle.std.proofs.lemmas.Bool.{cond_both, cond-true}
 use Rattle.accounts.specs.Books.{accounts, distinct, Proper}
 use Rattle.image_book.specs.Images.{count_in, capacity_of, held}
 use Rattle.image_book.specs.Refusals.{told, lacks_room, start_refusal, unfit, first_unfit, seventh, open_refusal}
 use Rattle.image_book.specs.Reading.{Legible, opened_count, opened_room, Reads}
-use Rattle.image_book.specs.Holding.{image_of, records_of, room_of, Sound, ComesBack}
-use Rattle.image_book.specs.declared.book.ImageBook.{ImageBook}
+use Rattle.image_book.specs.Holding.{ComesBack}
 use Rattle.image_book.specs.declared.checks.ImageRefusal.{ImageRefusal}
 use Rattle.image_book.proofs.Places.{length_held, every_held, distinct_fit, legible_fit, fit_each, fit_none, none_fit}
 use Rattle.image_book.proofs.Judging.{judged, room_parts, room_from}
@@ -114,8 +113,8 @@ module _ (bs : List ℕ) where
     pub count_none : 0 ≡ opened_count bs
     count_none = sym (cond-true (is_some (open_refusal bs)) 0 (count_in bs) (sym refused))
 
-    pub room-none : 0 ≡ opened_room bs
-    room-none = sym (cond-true (is_some (open_refusal bs)) 0 (capacity_of bs) (sym refused))
+    pub room_none : 0 ≡ opened_room bs
+    room_none = sym (cond-true (is_some (open_refusal bs)) 0 (capacity_of bs) (sym refused))
 
   pub proper_none : Proper (held 0 bs) 0
   unfolding held
@@ -125,7 +124,7 @@ module _ (bs : List ℕ) where
   pub comes_back : (n room : ℕ) → n ≡ opened_count bs → room ≡ opened_room bs → ComesBack bs n room
   comes_back n room a c b s e =
       let k : b.count ≡ n = s.same_count ∙ (ap opened_count e ∙ sym a) in
-      (ap (held b.count) e ∙ ap (λ m. held m bs) k, s.same-room ∙ (ap opened_room e ∙ sym c))
+      (ap (held b.count) e ∙ ap (λ m. held m bs) k, s.same_room ∙ (ap opened_room e ∙ sym c))
 
   pub reads_open : (n room : ℕ) → Open bs n room → Reads bs n room
   reads_open n room o = record {
@@ -137,4 +136,4 @@ module _ (bs : List ℕ) where
 
   pub reads_none : true ≡ is_some (open_refusal bs) → Reads bs 0 0
   unfolding held
-  reads_none h = record { proper = proper_none; whole = refl; same_count = count_none h; same_room = room-none h }
+  reads_none h = record { proper = proper_none; whole = refl; same_count = count_none h; same_room = room_none h }

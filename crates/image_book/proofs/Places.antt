@@ -1,18 +1,18 @@
 -- The records of an image's first places.
-use Rattle.std.proofs.Common.{◌≡◌, ℕ, zero, suc, ◌+◌, ◌-◌, ◌*◌, ◌/◌, ◌<◌, ◌≤◌, Bool, true, false, cond, not, ◌&&◌, ◌||◌, List, [], ◌∷◌, ◌++◌, map, length, get_or, take, drop, set, is_some, Some, None, Option, sym, refl, ap, ◌∙◌, subst, ⊎_elim, add-one, arith, below_more}
-use Rattle.std.proofs.lemmas.List.{length_push, map_push, take-take, get_or_append_left, get_or_at, set-append_left, set_at}
+use Rattle.std.proofs.Common.{◌≡◌, ℕ, zero, suc, ◌+◌, ◌-◌, ◌<◌, ◌≤◌, true, false, List, [], ◌∷◌, ◌++◌, length, get_or, drop, is_some, Some, None, Option, sym, refl, ap, ◌∙◌, subst, ⊎_elim, add-one, arith, below_more}
+use Rattle.std.proofs.lemmas.List.{length_push, map_push, take-take, get_or_append_left, get_or_at}
 use Rattle.std.proofs.lemmas.List.FromFn.{map-range_with_len_more}
 use Rattle.std.proofs.lemmas.Option.{slice_get-get_or}
 use Rattle.std.proofs.lemmas.Bool.{cond_both, cond-true, cond-false, cases_eq}
 use Rattle.std.proofs.lemmas.Bool.Decides.{nat_tests}
-use Rattle.std.specs.List.{slice_get, range_with_len}
+use Rattle.std.specs.List.{slice_get}
 use Rattle.std.specs.Option.{option_to_list}
 use Rattle.accounts.specs.declared.record.Record.{Record}
 use Rattle.accounts.specs.Ranges.{in_range}
 use Rattle.accounts.specs.Books.{accounts, find, present, distinct, every}
 use Rattle.accounts.proofs.Finding.{found_present, distinct_push, present_push}
 use Rattle.accounts.proofs.Keeping.{every_push}
-use Rattle.record_codec.specs.Bytes.{worth, part}
+use Rattle.record_codec.specs.Bytes.{worth}
 use Rattle.record_codec.specs.Codec.{decoded}
 use Rattle.record_codec.proofs.Inverse.{holds_decoded, in_range_decoded}
 use Rattle.image_book.specs.Images.{start_of, slot, held, account_at, accounts_in}

@@ -1,23 +1,20 @@
 -- An image after a record or the count is written.
-use Rattle.std.proofs.Common.{◌≡◌, ℕ, zero, suc, ◌+◌, ◌-◌, ◌*◌, ◌/◌, ◌^◌, ◌<◌, ◌≤◌, min, Bool, true, false, cond, List, [], ◌∷◌, ◌++◌, length, get_or, take, drop, set, replicate, is_some, Some, None, Option, sym, refl, ap, ◌∙◌, subst, ⊎_elim, add-one, arith, below_more}
-use Rattle.std.proofs.lemmas.List.{length_push, set-append_left, set_at}
+use Rattle.std.proofs.Common.{◌≡◌, ℕ, zero, suc, ◌+◌, ◌-◌, ◌/◌, ◌^◌, ◌<◌, ◌≤◌, min, false, List, [], ◌∷◌, ◌++◌, length, set, is_some, Some, sym, refl, ap, ◌∙◌, subst, ⊎_elim, arith}
+use Rattle.std.proofs.lemmas.List.{set-append_left, set_at}
 use Rattle.std.proofs.lemmas.Bool.{cases_eq, cases_order}
 use Rattle.std.specs.Option.{option_to_list}
 use Rattle.accounts.specs.declared.record.Record.{Record}
-use Rattle.accounts.specs.Ranges.{in_range}
-use Rattle.accounts.specs.Books.{accounts, distinct, Proper, takes, suits}
-use Rattle.accounts.proofs.Keeping.{proper_add, proper_replace}
 use Rattle.record_codec.specs.Bytes.{le, worth, part, written}
 use Rattle.record_codec.specs.Codec.{encoded, decoded}
-use Rattle.record_codec.proofs.Worth.{length_le, worth_le, four_zeros}
-use Rattle.record_codec.proofs.Inverse.{decoded_encoded, length_encoded}
+use Rattle.record_codec.proofs.Worth.{length_le, worth_le}
+use Rattle.record_codec.proofs.Inverse.{length_encoded}
 use Rattle.image_book.specs.Images.{count_in, capacity_of, start_of, slot, held}
 use Rattle.image_book.specs.Refusals.{lacks_room}
 use Rattle.image_book.specs.Reading.{Legible}
 use Rattle.image_book.proofs.Parts.{length_written, part_same, part_before, part_after}
 use Rattle.image_book.proofs.Places.{some_of, held_more, legible_less, length_held}
 use Rattle.image_book.proofs.Judging.{room_parts}
-use Rattle.image_book.proofs.Opening.{Open, proper_open}
+use Rattle.image_book.proofs.Opening.{Open}
 
 pub held_same : (n : ℕ) (bs bs' : List ℕ) → ((i : ℕ) → i < n → slot i bs' ≡ slot i bs) → held n bs' ≡ held n bs
 unfolding held

@@ -1,9 +1,8 @@
 -- An image of a book: a count of four bytes, then 36 bytes a record.
-use Rattle.std.specs.Prelude.{ℕ, zero, suc, ◌+◌, ◌-◌, ◌*◌, ◌/◌, min, Bool, true, cond, ◌||◌, ltb, List, [], ◌++◌, map, length, Some, None, Option}
+use Rattle.std.specs.Prelude.{ℕ, zero, suc, ◌+◌, ◌-◌, ◌*◌, ◌/◌, min, List, [], ◌++◌, map, length}
 use Rattle.std.specs.List.{range_with_len}
 use Rattle.std.specs.Option.{option_to_list}
 use Rattle.accounts.specs.declared.record.Record.{Record}
-use Rattle.accounts.specs.Books.{accounts, present}
 use Rattle.record_codec.specs.Bytes.{worth, part}
 use Rattle.record_codec.specs.Codec.{decoded}
 

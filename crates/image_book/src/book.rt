@@ -109,13 +109,13 @@ impl<'a> ImageBook<'a> {
 }
 
 impl<'a> AccountBook for ImageBook<'a> {
-    ghost records = { records-of };
+    ghost records = { records_of };
 
     ghost room = { room_of };
 
     ghost side = { λ b. [] };
 
-    ghost loans = { λ b. loan-of b ∷ [] };
+    ghost loans = { λ b. loan_of b ∷ [] };
 
     ghost sound = { Sound };
 

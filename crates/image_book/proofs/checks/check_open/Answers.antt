@@ -11,7 +11,7 @@ returns-then-not-fit c =
     let i = c.loop-place.place in
     let u = flipped c.fit.result (unfit i bs) (c.fit.ensures c.loop-place.invariant.0) ∙ ap not c.if-not-fit.true in
     let f = sym c.loop-place.invariant.1 ∙ first_unfit_here bs (count_in bs) i (omega arith) u in
-    sym (judged bs (room_found bs c.in-ok-check-start.ensures) (Some i) f)
+    sym (judged bs (room_found bs c.in_ok-check_start.ensures) (Some i) f)
 
 pub loop-place-preserved : goal.loop-place-preserved
 loop-place-preserved c =
@@ -24,4 +24,4 @@ pub returns : goal.returns
 returns c =
     let bs = c.args.image.now in
     let f = sym c.loop-place.invariant.1 ∙ first_unfit_end bs (count_in bs) c.loop-place.place (omega arith) in
-    sym (judged bs (room_found bs c.in-ok-check-start.ensures) None f)
+    sym (judged bs (room_found bs c.in_ok-check_start.ensures) None f)

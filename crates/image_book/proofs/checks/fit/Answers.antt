@@ -1,4 +1,4 @@
-use Rattle.std.proofs.Common.{not, is_some, sym, ap, ◌∙◌}
+use Rattle.std.proofs.Common.{is_some, sym, ap, ◌∙◌}
 use Rattle.image_book.specs.Refusals.{unfit}
 use Rattle.image_book.proofs.Places.{unfit_found}
 use Rattle.image_book.proofs.Judging.{flipped}
@@ -8,4 +8,4 @@ pub returns-in-Some : goal.returns-in-Some
 returns-in-Some c l =
     let bs = c.args.image.now in
     let u = unfit_found bs c.args.place c.in-Some.record l (sym c.in-Some.ensures) in
-    flipped (unfit c.args.place bs) c.is-none.result (sym u ∙ (ap is_some (sym c.place-of.ensures) ∙ c.is-none.ensures))
+    flipped (unfit c.args.place bs) c.is_none.result (sym u ∙ (ap is_some (sym c.place_of.ensures) ∙ c.is_none.ensures))

@@ -1,4 +1,4 @@
-use Rattle.std.proofs.Common.{◌≡◌, true, false, replicate, sym, refl, ap, ◌∙◌, subst}
+use Rattle.std.proofs.Common.{◌≡◌, true, false, replicate, sym, ap, ◌∙◌, subst}
 use Rattle.std.proofs.lemmas.Bool.{cond-true, cond-false}
 use Rattle.record_codec.specs.Bytes.{le, written}
 use Rattle.record_codec.proofs.Worth.{four_zeros}
@@ -9,10 +9,10 @@ use Rattle.image_book.proofs.Opening.{start_err, lacking, reads_open, reads_none
 use Rattle.image_book.proofs.Writing.{open_started}
 use Rattle.image_book.proofs.making.begin.Goals as goal
 
-pub returns-then-is-err : goal.returns-then-is-err
-returns-then-is-err c =
+pub returns-then-is_err : goal.returns-then-is_err
+returns-then-is_err c =
     let bs = c.args.image.now in
-    let h = start_err bs c.check-start.result true c.if-is-err.ensures.value c.check-start.ensures in
+    let h = start_err bs c.check_start.result true c.if-is_err.ensures.value c.check_start.ensures in
     record {
       image = sym (cond-true (lacks_room bs) bs (written 0 (replicate 4 0) bs) (sym h));
       room = sym (cond-true (lacks_room bs) 0 (capacity_of bs) (sym h));
@@ -22,8 +22,8 @@ returns-then-is-err c =
 pub returns : goal.returns
 returns c =
     let bs = c.args.image.now in
-    let h = start_err bs c.check-start.result false c.if-is-err.ensures.value c.check-start.ensures in
-    let e : c.put.new.image ≡ written 0 (le 4 0) bs = c.put.ensures ∙ ap (λ xs. written 0 xs bs) c.four-bytes.ensures in
+    let h = start_err bs c.check_start.result false c.if-is_err.ensures.value c.check_start.ensures in
+    let e : c.put.new.image ≡ written 0 (le 4 0) bs = c.put.ensures ∙ ap (λ xs. written 0 xs bs) c.four_bytes.ensures in
     let m = c.capacity-room.ensures in
     record {
       image = e ∙ (ap (λ xs. written 0 xs bs) four_zeros ∙ sym (cond-false (lacks_room bs) bs (written 0 (replicate 4 0) bs) (sym h)));

@@ -10,11 +10,11 @@ use Rattle.image_book.proofs.book.ImageBook.place.Goals as goal
 pub returns : goal.returns
 returns c = record { found = there; test = λ s. ap is_some (there s) ∙ found_present c.args.account 0 (accounts (records_of c.args.self.now)) }
   where
-    there : Sound c.args.self.now → c.place-of.result ≡ find c.args.account (accounts (records_of c.args.self.now))
+    there : Sound c.args.self.now → c.place_of.result ≡ find c.args.account (accounts (records_of c.args.self.now))
     there s =
         let b = c.args.self.now in
         let l = legible_opened b.image.now b.count s.same_count in
         let e : c.end.result ≡ b.count = omega (arith, l.1) in
-        c.place-of.ensures
+        c.place_of.ensures
         ∙ (ap (λ n. find c.args.account (accounts_in n b.image.now)) e
         ∙ ap (find c.args.account) (sym (accounts_held b.image.now b.count l.0)))

@@ -5,7 +5,7 @@ use Rattle.image_book.specs.Images.{start_of, held}
 use Rattle.image_book.specs.Reading.{Reads}
 use Rattle.image_book.specs.Holding.{records_of}
 use Rattle.image_book.proofs.Opening.{open_of, reads_open}
-use Rattle.image_book.proofs.Changing.{with_record, list-replaced, open-replaced}
+use Rattle.image_book.proofs.Changing.{with_record, list_replaced, open_replaced}
 use Rattle.image_book.proofs.book.ImageBook.put.Goals as goal
 
 bytes : (c : goal.After-put) → c.put.new.image ≡ with_record c.args.place c.args.new c.args.self.now.image.now
@@ -28,10 +28,10 @@ returns c =
           let q = s.proper.fits in
           let p = suits_parts (records_of b) i r t in
           let h : i < n = omega (arith, p.0) in
-          let o = open_of bs n b.room s.same_count s.same-room (omega arith) in
+          let o = open_of bs n b.room s.same_count s.same_room (omega arith) in
           record {
-            stays = subst (λ x. Reads x n b.room) (sym e) (reads_open (with_record i r bs) n b.room (open-replaced bs n b.room o r p.1 i h t));
-            list = ap (held n) e ∙ list-replaced bs n b.room o r p.1 i h t;
+            stays = subst (λ x. Reads x n b.room) (sym e) (reads_open (with_record i r bs) n b.room (open_replaced bs n b.room o r p.1 i h t));
+            list = ap (held n) e ∙ list_replaced bs n b.room o r p.1 i h t;
             same_room = refl;
             same_side = refl;
             same_loans = refl;

@@ -22,9 +22,9 @@ returns-then-place-end c = record {
 
 pub returns : goal.returns
 returns c = record {
-  bound = anyway c.record-at.result (omega arith);
+  bound = anyway c.record_at.result (omega arith);
   value = λ s.
       let b = c.args.self.now in
       let l = legible_opened b.image.now b.count s.same_count in
-      c.record-at.ensures ∙ sym (nth_held b.image.now b.count c.args.place l.0 (omega arith));
+      c.record_at.ensures ∙ sym (nth_held b.image.now b.count c.args.place l.0 (omega arith));
 }
