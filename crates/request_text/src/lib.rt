@@ -1,4 +1,6 @@
 // The refusals of a request file in words.
+#![tactic(auto)]
+
 ghost use Rattle.std.specs.Prelude.{◌≡◌, IfOk, string_bytes};
 ghost use Rattle.request_text.specs.Texts.{words_of, refusal_text_of, write_reason_of};
 

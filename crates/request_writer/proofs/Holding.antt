@@ -13,7 +13,7 @@ use Rattle.requests.proofs.Numerals.{number_lt}
 use Rattle.requests.proofs.Judged.{no_fault, lines_split}
 use Rattle.requests.proofs.Readings.{Meant, meant}
 use Rattle.request_writer.specs.declared.refusal.WriteRefusal.{WriteRefusal}
-use Rattle.request_writer.specs.Packing.{Item, behind, text, holds, items_from, file_of, packing, Refuses, Unheld, ReadsBack}
+use Rattle.request_writer.specs.Packing.{Item, text, holds, items_from, file_of, packing, Refuses, Unheld, ReadsBack}
 use Rattle.request_writer.proofs.Texts.{length_text}
 use Rattle.request_writer.proofs.Checks.{length_file}
 

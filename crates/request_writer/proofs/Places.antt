@@ -1,5 +1,5 @@
 -- Where the lines of a packed file stand.
-use Rattle.std.proofs.Common.{◌≡◌, ℕ, zero, suc, ◌+◌, ◌-◌, ◌*◌, ◌/◌, ◌%◌, ◌^◌, ◌<◌, List, [], ◌∷◌, ◌++◌, length, get_or, drop, sym, refl, ap, ◌∙◌, add_assoc, mod-eq_of_lt, add_comm, zero-add, arith}
+use Rattle.std.proofs.Common.{◌≡◌, ℕ, zero, suc, ◌+◌, ◌*◌, ◌/◌, ◌%◌, ◌^◌, ◌<◌, List, [], ◌∷◌, ◌++◌, length, get_or, drop, sym, refl, ap, ◌∙◌, add_assoc, mod-eq_of_lt, add_comm, zero-add, arith}
 use native.Mathlib.Nat.{pow-succ', pow-le-pow_right}
 use lib.Arith.{mod-mul}
 use Rattle.std.specs.List.{flat_map}

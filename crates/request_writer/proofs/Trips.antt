@@ -10,7 +10,7 @@ use Rattle.requests.proofs.Judged.{no_fault, then_ok}
 use Rattle.requests.proofs.Readings.{cond_ok}
 use Rattle.request_writer.specs.declared.refusal.WriteRefusal.{WriteRefusal}
 use Rattle.request_writer.specs.declared.refusal.WriteRefusal.TheVariants as refusal
-use Rattle.request_writer.specs.Packing.{Item, form, behind, text, holds, little_bytes, pairs, file_of, items_from, packing, sized, ReadsBack}
+use Rattle.request_writer.specs.Packing.{Item, form, text, holds, little_bytes, pairs, file_of, items_from, packing, sized, ReadsBack}
 use Rattle.request_writer.proofs.Texts.{length_form, length_text}
 use Rattle.request_writer.proofs.Packs.{length_little}
 use Rattle.request_writer.proofs.Checks.{size, length_file, length_pairs, text_most}

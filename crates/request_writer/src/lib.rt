@@ -1,4 +1,6 @@
 // Packs lines with their remarks into a request file.
+#![tactic(auto)]
+
 pub mod entry;
 mod pack;
 pub mod refusal;

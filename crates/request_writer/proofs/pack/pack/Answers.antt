@@ -10,5 +10,5 @@ unfolding file_of
 returns c =
     let es = map item c.args.entries.now in
     let n = length c.args.entries.now in
-    rw (c.in-ok-push-texts.ensures, c.in-ok-push-pairs.ensures, c.in-ok-push-two.ensures, c.in-ok-file.ensures.items, length-map)
+    rw (c.in_ok-push_texts.ensures, c.in_ok-push_pairs.ensures, c.in_ok-push_two.ensures, c.in_ok-file.ensures.items, length-map)
     (three [] (little_bytes 2 n) (pairs (2 + 6 * n) es) (flat_map text es))

@@ -4,19 +4,19 @@ use Rattle.request_writer.specs.Packing.{pairs}
 use Rattle.request_writer.proofs.Packs.{pairs_more, left_more, remark_short, blank}
 use Rattle.request_writer.proofs.pack.push_pairs.Goals as goal
 
-pub text-length-length-requires : goal.text-length-length-requires
-text-length-length-requires c =
+pub text_length-length-requires : goal.text_length-length-requires
+text_length-length-requires c =
     let es = c.args.entries.now in
     let i = c.loop-entry.entry-index in
     let l = c.loop-entry-test.true in
     omega (arith, left_more es i blank l, remark_short es i blank l, c.loop-entry.invariant.1)
 
-pub push-two-requires : goal.push-two-requires
-push-two-requires c =
+pub push_two-requires : goal.push_two-requires
+push_two-requires c =
     omega (arith, left_more c.args.entries.now c.loop-entry.entry-index blank c.loop-entry-test.true, c.loop-entry.invariant.1)
 
-pub overflow-add-at-in-loop-entry : goal.overflow-add-at-in-loop-entry
-overflow-add-at-in-loop-entry c =
+pub overflow_add-at-in-loop-entry : goal.overflow_add-at-in-loop-entry
+overflow_add-at-in-loop-entry c =
     omega (arith, left_more c.args.entries.now c.loop-entry.entry-index blank c.loop-entry-test.true, c.loop-entry.invariant.1)
 
 pub loop-entry-preserved : goal.loop-entry-preserved
@@ -24,7 +24,7 @@ loop-entry-preserved c =
     let es = c.args.entries.now in
     let i = c.loop-entry.entry-index in
     let l = c.loop-entry-test.true in (
-      rw (c.in-ok-push-two.ensures, c.in-ok-push-four.ensures, c.text-length-length.ensures) (pairs_more es i blank l (vec_items c.loop-entry.file) c.loop-entry.at ∙ c.loop-entry.invariant.0),
+      rw (c.in_ok-push_two.ensures, c.in_ok-push_four.ensures, c.text_length-length.ensures) (pairs_more es i blank l (vec_items c.loop-entry.file) c.loop-entry.at ∙ c.loop-entry.invariant.0),
       omega (arith, left_more es i blank l, c.loop-entry.invariant.1),
     )
 

@@ -5,7 +5,7 @@ use Rattle.request_writer.proofs.pack.push_texts.Goals as goal
 
 pub loop-entry-preserved : goal.loop-entry-preserved
 loop-entry-preserved c =
-    rw c.in-ok-push-text.ensures (texts_more c.args.entries.now c.loop-entry.entry-index blank c.loop-entry-test.true (vec_items c.loop-entry.file) ∙ c.loop-entry.invariant)
+    rw c.in_ok-push_text.ensures (texts_more c.args.entries.now c.loop-entry.entry-index blank c.loop-entry-test.true (vec_items c.loop-entry.file) ∙ c.loop-entry.invariant)
 
 pub returns : goal.returns
 returns c =

@@ -7,5 +7,5 @@ pub returns : goal.returns
 unfolding form
 returns c =
     let l = c.args.line.now in
-    rw (c.in-ok-extend-from-slice.ensures.items, c.in-ok-push-field-4.ensures, c.in-ok-push-field-3.ensures, c.in-ok-push-field-2.ensures, c.in-ok-push-field.ensures, c.size-letter.ensures, c.kind-letter.ensures)
+    rw (c.in_ok-extend_from_slice.ensures.items, c.in_ok-push_field-4.ensures, c.in_ok-push_field-3.ensures, c.in_ok-push_field-2.ensures, c.in_ok-push_field.ensures, c.size_letter.ensures, c.kind_letter.ensures)
     (five (vec_items c.args.file.now) (field 11 l.account) (field 6 l.percentage) (field 4 l.savings) (field 2 l.class) (size_letter l.size ∷ 32 ∷ kind_letter l.kind ∷ []))
