@@ -7,7 +7,7 @@ pub returns-then-is-empty : goal.returns-then-is-empty
 returns-then-is-empty c = record { value = sym (no_digits _ _ (eqb-true _ _ (sym c.if-is-empty.ensures))); bound = tt }
 
 pub loop-b-init : goal.loop-b-init
-loop-b-init c = (some_digits _ _ (omega (arith, eqb-false _ _ (sym c.if-is-empty.ensures))), omega arith)
+loop-b-init c = (some_digits _ _ (omega (arith, eqb-false _ _ (sym c.if-is_empty.ensures))), omega arith)
 
 pub returns-then-not-is-digit : goal.returns-then-not-is-digit
 returns-then-not-is-digit c =
@@ -15,7 +15,7 @@ returns-then-not-is-digit c =
 
 pub loop-b-preserved : goal.loop-b-preserved
 loop-b-preserved c = (
-  rw (c.min-n.ensures, c.from.ensures, c.from-limit.ensures) (sym (digit_next _ _ _ _ c.loop-b-test.true (sym c.if-not-is-digit.ensures)) ∙ c.loop-b.invariant.0),
+  rw (c.min-n.ensures, c.from.ensures, c.from-limit.ensures) (sym (digit_next _ _ _ _ c.loop-b-test.true (sym c.if-not-is_digit.ensures)) ∙ c.loop-b.invariant.0),
   omega arith,
 )
 

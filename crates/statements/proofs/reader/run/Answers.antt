@@ -12,7 +12,7 @@ returns-then-is-space-spaces c =
 
 pub loop-i-preserved : goal.loop-i-preserved
 loop-i-preserved c =
-    let e = run_goes (is_space (get_or c.args.line.now c.loop-i.i 0)) c.args.spaces (rw c.is-space.ensures at c.if-is-space-spaces.false) in
+    let e = run_goes (is_space (get_or c.args.line.now c.loop-i.i 0)) c.args.spaces (rw c.is_space.ensures at c.if-is_space-spaces.false) in
     let n = prefix_len-drop_yes (in_run c.args.spaces) c.args.line.now c.loop-i.i 0 c.loop-i-test.true e in
     omega (arith, c.loop-i.invariant, n)
 
