@@ -6,26 +6,26 @@ use Rattle.posting.specs.declared.entry.Entry.{Entry}
 use Rattle.posting.specs.declared.order.Head.{Head}
 use Rattle.posting.specs.declared.order.OrderFault.{OrderFault}
 use Rattle.posting.specs.declared.order.Part.{Part}
-use Rattle.posting.specs.declared.order.Part.TheVariants as part-is
+use Rattle.posting.specs.declared.order.Part.TheVariants as part_is
 use Rattle.posting.specs.declared.order.Stage.{Stage}
 use Rattle.posting.specs.declared.order.Stage.TheVariants.{Start, HasMethod, HasBook, Opened}
 use Rattle.posting.specs.declared.order.Wanted.{Wanted}
 use Rattle.posting.specs.declared.order.Wanted.TheVariants as want
 
 abbrev pub part : Meaning → Part
-part (said.a-method name) = part-is.Method name
-part (said.a-book book) = part-is.Book book
-part (said.an-opening smallest farm) = part-is.Open smallest farm
-part (said.some-rates _) = part-is.Later
-part (said.a-line _) = part-is.Later
-part (said.a-request _) = part-is.Later
-part said.an-enrolment = part-is.Later
-part (said.a-reading _) = part-is.Later
-part (said.a-bill _ _) = part-is.Later
-part (said.a-final-bill _ _) = part-is.Later
-part (said.a-disbursement _ _) = part-is.Later
-part said.a-lapse = part-is.Later
-part said.a-close = part-is.Later
+part (said.a_method name) = part_is.Method name
+part (said.a_book book) = part_is.Book book
+part (said.an_opening smallest farm) = part_is.Open smallest farm
+part (said.some_rates _) = part_is.Later
+part (said.a_line _) = part_is.Later
+part (said.a_request _) = part_is.Later
+part said.an_enrolment = part_is.Later
+part (said.a_reading _) = part_is.Later
+part (said.a_bill _ _) = part_is.Later
+part (said.a_final_bill _ _) = part_is.Later
+part (said.a_disbursement _ _) = part_is.Later
+part said.a_lapse = part_is.Later
+part said.a_close = part_is.Later
 
 -- what a line out of order should have had
 abbrev pub wanted_text : Wanted → List ℕ
@@ -38,22 +38,22 @@ abbrev pub wanted_at : ℕ → Wanted → OrderFault
 wanted_at line w = record { line = line; wanted = w }
 
 abbrev pub next : Stage → ℕ → Part → Result Stage OrderFault
-next Start line (part-is.Method m) = Ok (HasMethod m)
-next Start line (part-is.Book _) = Err (wanted_at line want.Method)
-next Start line (part-is.Open _ _) = Err (wanted_at line want.Method)
-next Start line part-is.Later = Err (wanted_at line want.Method)
-next (HasMethod m) line (part-is.Book b) = Ok (HasBook m b)
-next (HasMethod m) line (part-is.Method _) = Err (wanted_at line want.Book)
-next (HasMethod m) line (part-is.Open _ _) = Err (wanted_at line want.Book)
-next (HasMethod m) line part-is.Later = Err (wanted_at line want.Book)
-next (HasBook m b) line (part-is.Open s f) = Ok (Opened (record { method = m; book = b; smallest = s; farm = f }))
-next (HasBook m b) line (part-is.Method _) = Err (wanted_at line want.Open)
-next (HasBook m b) line (part-is.Book _) = Err (wanted_at line want.Open)
-next (HasBook m b) line part-is.Later = Err (wanted_at line want.Open)
-next (Opened h) line part-is.Later = Ok (Opened h)
-next (Opened h) line (part-is.Method _) = Err (wanted_at line want.Later)
-next (Opened h) line (part-is.Book _) = Err (wanted_at line want.Later)
-next (Opened h) line (part-is.Open _ _) = Err (wanted_at line want.Later)
+next Start line (part_is.Method m) = Ok (HasMethod m)
+next Start line (part_is.Book _) = Err (wanted_at line want.Method)
+next Start line (part_is.Open _ _) = Err (wanted_at line want.Method)
+next Start line part_is.Later = Err (wanted_at line want.Method)
+next (HasMethod m) line (part_is.Book b) = Ok (HasBook m b)
+next (HasMethod m) line (part_is.Method _) = Err (wanted_at line want.Book)
+next (HasMethod m) line (part_is.Open _ _) = Err (wanted_at line want.Book)
+next (HasMethod m) line part_is.Later = Err (wanted_at line want.Book)
+next (HasBook m b) line (part_is.Open s f) = Ok (Opened (record { method = m; book = b; smallest = s; farm = f }))
+next (HasBook m b) line (part_is.Method _) = Err (wanted_at line want.Open)
+next (HasBook m b) line (part_is.Book _) = Err (wanted_at line want.Open)
+next (HasBook m b) line part_is.Later = Err (wanted_at line want.Open)
+next (Opened h) line part_is.Later = Ok (Opened h)
+next (Opened h) line (part_is.Method _) = Err (wanted_at line want.Later)
+next (Opened h) line (part_is.Book _) = Err (wanted_at line want.Later)
+next (Opened h) line (part_is.Open _ _) = Err (wanted_at line want.Later)
 
 -- a journal that ends too early lacks a statement at its end
 abbrev pub headed : ℕ → Stage → Result Head OrderFault

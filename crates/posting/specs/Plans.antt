@@ -96,19 +96,19 @@ told e = (meaning e.statement, vec_items e.file)
 -- `worths` is the worth of a class's units by the rates in force
 module _ (worths : List ℕ → ℕ → ℕ → ℕ) where
   abbrev pub after : State → Meaning → List ℕ → State
-  after s (said.a-method _) file = s
-  after s (said.a-book _) file = s
-  after s (said.an-opening _ _) file = s
-  after s (said.some-rates rs) file = with_rates s rs
-  after s (said.a-line l) file = more_line s l
-  after s (said.a-request _) file = read_file s file
-  after s said.an-enrolment file = enrolled s
-  after s (said.a-reading units) file = called s (a_reading units) note.Reading
-  after s (said.a-bill account cents) file = called s (a_bill (worths s.rates) account cents) note.Bill
-  after s (said.a-final-bill account cents) file = called s (a_final_bill (worths s.rates) account cents) note.Final
-  after s (said.a-disbursement account units) file = called s (a_disbursement account units) note.Disburse
-  after s said.a-lapse file = called s a_lapse note.Lapse
-  after s said.a-close file = called s a_close note.Close
+  after s (said.a_method _) file = s
+  after s (said.a_book _) file = s
+  after s (said.an_opening _ _) file = s
+  after s (said.some_rates rs) file = with_rates s rs
+  after s (said.a_line l) file = more_line s l
+  after s (said.a_request _) file = read_file s file
+  after s said.an_enrolment file = enrolled s
+  after s (said.a_reading units) file = called s (a_reading units) note.Reading
+  after s (said.a_bill account cents) file = called s (a_bill (worths s.rates) account cents) note.Bill
+  after s (said.a_final_bill account cents) file = called s (a_final_bill (worths s.rates) account cents) note.Final
+  after s (said.a_disbursement account units) file = called s (a_disbursement account units) note.Disburse
+  after s said.a_lapse file = called s a_lapse note.Lapse
+  after s said.a_close file = called s a_close note.Close
 
   abbrev pub step : State → Meaning × List ℕ → State
   step s e = after s e.0 e.1

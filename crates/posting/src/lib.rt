@@ -1,4 +1,6 @@
 // From a journal's statements to the ledger's calls, and the totals of their answers.
+#![tactic(auto)]
+
 pub mod entry;
 pub mod growing;
 pub mod note;

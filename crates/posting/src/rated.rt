@@ -24,7 +24,7 @@ impl Rated for ValueStack {
 }
 
 impl Rated for Volumetric {
-    ghost worths = { by-rates };
+    ghost worths = { by_rates };
 
     fn rated(rates: &Volumetric) -> Volumetric {
         *rates

@@ -3,7 +3,7 @@ use Rattle.std.proofs.Common.{◌≡◌, ℕ, ◌+◌, ◌<◌, ◌≤◌, Bool,
 use mathlib.Core.Bool.{beq}
 use Rattle.std.proofs.lemmas.Bool.{cond-true, cond-false, cond_both, not_from_false}
 use Rattle.std.specs.List.{prefix_len}
-use Rattle.statements.specs.Words.{is_space, in_run, closed, words_from, words, first}
+use Rattle.statements.specs.Words.{is_space, in_run, closed, words_from, words}
 
 -- a byte of the other kind ends a run
 pub run_ends : (t spaces : Bool) → not (beq t spaces) ≡ true → cond spaces t (not t) ≡ false

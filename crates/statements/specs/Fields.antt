@@ -4,9 +4,7 @@ use Rattle.std.proofs.Math.Utf8.{encodes, scalars}
 use Rattle.std.specs.Option.{ok_or}
 use Rattle.std.specs.Str.{bytes_eq, chars}
 use Rattle.accounts.specs.declared.record.Line.{Line}
-use Rattle.accounts.specs.declared.record.Size.{Size}
 use Rattle.accounts.specs.declared.record.Size.TheVariants.{Small, Large}
-use Rattle.accounts.specs.declared.record.Kind.{Kind}
 use Rattle.accounts.specs.declared.record.Kind.TheVariants.{Member, Anchor}
 use Rattle.statements.specs.declared.statement.BookKind.{BookKind}
 use Rattle.statements.specs.declared.statement.BookKind.TheVariants.{Table, Image}

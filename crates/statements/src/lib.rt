@@ -1,4 +1,6 @@
 // The statements of a journal: what a line of text says, and the text of a statement.
+#![tactic(auto)]
+
 mod keyword;
 mod number;
 pub mod parse;

@@ -4,4 +4,4 @@ use Rattle.answer_text.proofs.books.terms_text.Goals as goal
 
 pub returns : goal.returns
 returns c =
-    IfOk-weaker c.format.result _ _ (λ s e. terms_worded c.args.«record» _ c.size-word-size.result.now c.kind-word-kind.result.now c.size-word-size.ensures c.kind-word-kind.ensures e) c.format.ensures.ok
+    IfOk-weaker c.format.result _ _ (λ s e. terms_worded c.args.«record» _ c.size_word-size.result.now c.kind_word-kind.result.now c.size_word-size.ensures c.kind_word-kind.ensures e) c.format.ensures.ok

@@ -9,10 +9,10 @@ loop-one-preserved g c =
     let here = seen w c.loop-one.plan in
     let there = seen w c.add.new.self in
     let stepped : there ≡ step g.M.Rated.worths here (told c.one-item.result) = search rules in
-    planned_more g.M.Rated.worths c.args.entries.now c.loop-one.one_Index here there c.one-item.result c.loop-one-test.true c.one-item.is stepped
+    planned_more g.M.Rated.worths c.args.entries.now c.loop-one.one-index here there c.one-item.result c.loop-one-test.true c.one-item.is stepped
     ∙ c.loop-one.invariant
 
 pub returns : goal.returns
 returns g c =
-    sym (planned_all g.M.Rated.worths c.args.entries.now c.loop-one.one_Index (seen g.M.CreditMethod.worth c.loop-one.plan) c.loop-one-test.false)
+    sym (planned_all g.M.Rated.worths c.args.entries.now c.loop-one.one-index (seen g.M.CreditMethod.worth c.loop-one.plan) c.loop-one-test.false)
     ∙ c.loop-one.invariant

@@ -12,5 +12,5 @@ returns g c =
     record {
       step = sum_more a calls said i c.index-calls-place.result _ c.requires.call c.requires.answer c.index-calls-place.is
           ∙ ap (λ (n : ℕ). n + sum_of a (drop (i + 1) calls) (drop (i + 1) said)) (sym c.of.ensures);
-      bound = omega (arith, c.of.type-inv);
+      bound = omega (arith, c.of.type_inv);
     }

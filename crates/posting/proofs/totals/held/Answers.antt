@@ -4,7 +4,7 @@ use Rattle.posting.proofs.totals.held.Goals as goal
 
 pub loop-place-preserved : goal.loop-place-preserved
 loop-place-preserved g c =
-    (λ s. omega (arith, c.loop-place.invariant.0 s, c.held-at.ensures.step s), omega (arith, c.loop-place.invariant.1, c.held-at.ensures.bound))
+    (λ s. omega (arith, c.loop-place.invariant.0 s, c.held_at.ensures.step s), omega (arith, c.loop-place.invariant.1, c.held_at.ensures.bound))
 
 pub returns : goal.returns
 returns g c =

@@ -9,4 +9,4 @@ tested xs ys r h = search (rules, bytes_eq-Decides)
 
 pub returns : goal.returns
 returns c =
-    rw c.as-bytes.ensures.value at (tested _ _ _ (slice_eq-Decides Decides-eqb c.args.word.now c.as-bytes.result.now c.eq.result c.eq.ensures))
+    rw c.as_bytes.ensures.value at (tested _ _ _ (slice_eq-Decides Decides-eqb c.args.word.now c.as_bytes.result.now c.eq.result c.eq.ensures))

@@ -8,8 +8,8 @@ use Rattle.statements.proofs.write.write_rates.Goals as goal
 
 pub loop-rate-preserved : goal.loop-rate-preserved
 loop-rate-preserved c =
-    let word = c.as-str.ensures.value ∙ c.in-ok-word.ensures.ok in
-    let more = pushed c.as-str.result.now c.loop-rate.invariant c.in-ok-push-str.was c.push-str.ensures.bytes in
+    let word = c.as_str.ensures.value ∙ c.in_ok-word.ensures.ok in
+    let more = pushed c.as_str.result.now c.loop-rate.invariant c.in_ok-push_str.was c.push_str.ensures.bytes in
     more
     ∙ ap (λ t. (codes "rates" ++ flat_map rate_text (take c.loop-rate.rate-index c.args.rates.now)) ++ t) word
     ∙ flat_map_more rate_text (codes "rates") (take c.loop-rate.rate-index c.args.rates.now) (get_or c.args.rates.now c.loop-rate.rate-index 0)
@@ -17,5 +17,5 @@ loop-rate-preserved c =
 
 pub returns : goal.returns
 returns c =
-    rates_written _ c.args.rates.now (every_at c.args.rates.now (λ i. omega (arith, c.type-inv.rates i)))
+    rates_written _ c.args.rates.now (every_at c.args.rates.now (λ i. omega (arith, c.type_inv.rates i)))
     (c.loop-rate.invariant ∙ ap (λ rs. codes "rates" ++ flat_map rate_text rs) (take_all c.loop-rate.rate-index c.args.rates.now c.loop-rate-test.false))
