@@ -162,7 +162,7 @@ module _ {M : Type 0} (worth : M → ℕ → ℕ → ℕ) where
       good : (r : Record) → Billable account cents (s.closed + 1) s.records r → Kept worth h (call.FinalBill m account cents) (final_judged (worth m) s applied fees cents (Ok r))
       good r b =
           let p : Posting = posting (worth m) r cents in
-          let e : Event M = history.finally-billed m account cents p (r.held - p.used) in
+          let e : Event M = history.finally_billed m account cents p (r.held - p.used) in
           let n : Record = ended (s.closed + 1) r in
           let same = found_account account s.records r b.found in
           let f = posted lawful h s m account cents r i b in

@@ -1,5 +1,5 @@
 -- An enrolment keeps what stands.
-use Rattle.std.proofs.Common.{◌≡◌, ℕ, ◌+◌, ◌-◌, ◌≤◌, List, [], ◌∷◌, map, length, vec_items, Vec, refl, ap, arith}
+use Rattle.std.proofs.Common.{◌≡◌, ℕ, ◌+◌, ◌≤◌, List, [], ◌∷◌, map, length, vec_items, Vec, refl, ap, arith}
 use Rattle.std.proofs.lemmas.List.{length-map}
 use Rattle.std.specs.declared.alloc.Global.{Global}
 use Rattle.accounts.specs.declared.record.Line.{Line}
@@ -15,7 +15,7 @@ use Rattle.ledger.specs.Sums.{total}
 use Rattle.journal.specs.Histories as history
 use Rattle.journal.specs.Histories.{History, class_of, disbursed_to, percentage_of, shares_of, used_by}
 use Rattle.journal.proofs.Entering.{entered_found, entered_held, entered_length, entered_percentages}
-use Rattle.ledger.proofs.Requests.{Accepted, judged}
+use Rattle.ledger.proofs.Requests.{judged}
 use Rattle.ledger.proofs.Found.{map_found}
 use Rattle.journal.proofs.Standing.{Kept, Stands, keeps_declined, unbounded}
 use Rattle.journal.proofs.Ties.{entry_tie}

@@ -1,5 +1,5 @@
 -- What the lines of a request make of the records: who has a record and which, how many there are, and their sums.
-use Rattle.std.proofs.Common.{◌≡◌, ℕ, ◌+◌, ◌≤◌, Bool, true, false, cond, not, eqb, List, [], ◌∷◌, ◌++◌, length, is_some, Some, None, Option, sym, refl, ap, ◌∙◌, arith}
+use Rattle.std.proofs.Common.{◌≡◌, ℕ, ◌+◌, ◌≤◌, Bool, true, false, cond, not, eqb, List, [], ◌∷◌, length, is_some, Some, None, Option, sym, refl, ap, ◌∙◌, arith}
 use Rattle.std.proofs.lemmas.List.{length_push, map_push}
 use Rattle.std.proofs.lemmas.Bool.{and_parts, eqb-true, not-true}
 use Rattle.std.proofs.lemmas.Bool.Decides.{nat_tests}
@@ -7,9 +7,9 @@ use Rattle.accounts.proofs.Finding.{present_push}
 use Rattle.accounts.specs.declared.record.Line.{Line}
 use Rattle.accounts.specs.declared.record.Record.{Record}
 use Rattle.accounts.specs.Books.{accounts, present, distinct}
-use Rattle.ledger.specs.Lines.{enter, enter_all, is_new, line_accounts, new_accounts, repeated_from}
-use Rattle.ledger.specs.Records.{allocated, joining, put, record_of}
-use Rattle.ledger.specs.Sums.{total, first_from}
+use Rattle.ledger.specs.Lines.{enter, enter_all, is_new, line_accounts, new_accounts}
+use Rattle.ledger.specs.Records.{allocated, joining, record_of}
+use Rattle.ledger.specs.Sums.{total}
 use Rattle.ledger.proofs.Found.{found_account, push_found, put_found, put_length, put_total, present_found, accounts_put}
 use Rattle.ledger.proofs.Totals.{total_push}
 

@@ -101,7 +101,7 @@ module _ {M : Type 0} (worth : M → ℕ → ℕ → ℕ) where
       let held = put_total (λ r. r.held) account n s.records r same e in
       let whole = put_total (λ r. r.percentage) account n s.records r same e in
       let size = put_length n s.records in
-      let own : history.of-account account account units ≡ units = cond-true _ _ _ (eq-eqb account account refl) in
+      let own : history.of_account account account units ≡ units = cond-true _ _ _ (eq-eqb account account refl) in
       let tie : Ties worth (history.disbursed account units (s.bank - units) ∷ h) account (Some n) = held_tie _ _ _ _ _ _ (r.held + units) r.last r (omega (arith, t.holds)) t in
       record {
         event = history.disbursed account units (s.bank - units);
@@ -115,7 +115,7 @@ module _ {M : Type 0} (worth : M → ℕ → ℕ → ℕ) where
           within = i.within;
           bounds = unbounded s.phase _ at;
           ties = put_ties (Ties worth h) (Ties worth (history.disbursed account units (s.bank - units) ∷ h)) account n s.records r same e tie
-              (λ b o other t. let none : history.of-account b account units ≡ 0 = cond-false _ _ _ other in tied_same _ _ (given b h) _ _ _ _ o refl (omega arith) refl t)
+              (λ b o other t. let none : history.of_account b account units ≡ 0 = cond-false _ _ _ other in tied_same _ _ (given b h) _ _ _ _ o refl (omega arith) refl t)
               i.ties;
           law = record { units = omega (arith, i.law); cents = omega (arith, i.law); each = (tt, i.law.each) };
         };

@@ -31,8 +31,8 @@ runs_on worth lawful h s i (c ∷ cs) =
     let rest = runs_on worth lawful (k.event ∷ h) (step worth s c).state k.stands cs in
     record {
       history = rest.history;
-      calls_told = rest.calls-told ∙ ap (λ x. reverse_aux cs (x ∷ map call_of h)) k.called;
-      answers_told = rest.answers-told ∙ ap (λ x. reverse_aux (answers worth (step worth s c).state cs) (x ∷ map answer_of h)) k.answered;
+      calls_told = rest.calls_told ∙ ap (λ x. reverse_aux cs (x ∷ map call_of h)) k.called;
+      answers_told = rest.answers_told ∙ ap (λ x. reverse_aux (answers worth (step worth s c).state cs) (x ∷ map answer_of h)) k.answered;
       law = rest.law;
     }
 
@@ -41,8 +41,8 @@ runs_lawfully worth lawful smallest farm room few calls =
     let run = runs_on worth lawful [] (opened smallest farm room []) (stands_opened worth smallest farm room few) calls in
     record {
       history = run.history;
-      calls_told = run.calls-told;
-      answers_told = run.answers-told;
+      calls_told = run.calls_told;
+      answers_told = run.answers_told;
       law = run.law;
     }
 

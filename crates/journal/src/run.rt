@@ -19,10 +19,12 @@ fn perform_all<M: CreditMethod, B: AccountBook>(
     calls: &[Call<M>],
     said: &mut Vec<Result<Done, Refusal>>,
 )
-    requires { (said.old.items ≡ []) × ((vec_len said.old ≡ 0) × (length calls.now ≤ vec_capacity said.old)) }
-    ensures kept { sound book.old → Kept (sound book.new) (room book.new) (room book.old) (side book.new) (side book.old) (loans book.new) (loans book.old) }
-    ensures state { sound book.old → view ledger.new (room book.new) (records book.new) ≡ after worth (view ledger.old (room book.old) (records book.old)) calls.now }
-    ensures answered { sound book.old → said.new.items ≡ answers worth (view ledger.old (room book.old) (records book.old)) calls.now }
+    requires empty { said.old.items ≡ [] }
+    requires uncounted { vec_len said.old ≡ 0 }
+    requires reserved { length calls.now ≤ vec_capacity said.old }
+    ensures kept { B.sound book.old → Kept (B.sound book.new) (B.room book.new) (B.room book.old) (B.side book.new) (B.side book.old) (B.loans book.new) (B.loans book.old) }
+    ensures state { B.sound book.old → view ledger.new (B.room book.new) (B.records book.new) ≡ after M.worth (view ledger.old (B.room book.old) (B.records book.old)) calls.now }
+    ensures answered { B.sound book.old → said.new.items ≡ answers M.worth (view ledger.old (B.room book.old) (B.records book.old)) calls.now }
 {
     for call in calls {
         let answer = ledger.perform(book, call);
@@ -39,8 +41,8 @@ pub fn run<M: CreditMethod, B: AccountBook>(
     calls: &[Call<M>],
     heap: Global,
 ) -> Result<Vec<Result<Done, Refusal>>, RunRefusal>
-    ensures kept { sound book.old → Kept (sound book.new) (room book.new) (room book.old) (side book.new) (side book.old) (loans book.new) (loans book.old) }
-    ensures ran { sound book.old → RunOutcome worth (judge_open smallest (length (records book.old))) (view ledger.old (room book.old) (records book.old)) (opened smallest farm (room book.old) (records book.old)) calls.now result (view ledger.new (room book.new) (records book.new)) }
+    ensures kept { B.sound book.old → Kept (B.sound book.new) (B.room book.new) (B.room book.old) (B.side book.new) (B.side book.old) (B.loans book.new) (B.loans book.old) }
+    ensures ran { B.sound book.old → RunOutcome M.worth (judge_open smallest (length (B.records book.old))) (view ledger.old (B.room book.old) (B.records book.old)) (opened smallest farm (B.room book.old) (B.records book.old)) calls.now result (view ledger.new (B.room book.new) (B.records book.new)) }
 {
     let Ok(mut said) = Vec::with_capacity(heap, calls.len()) else {
         return Err(RunRefusal::NoMemory);

@@ -20,15 +20,15 @@ loop-call-preserved g c =
           let e = c.perform-answer.ensures.steps h.0.stays in (
             record {
               stays = p.stays;
-              same_room = p.same-room ∙ h.0.same-room;
-              same_side = p.same-side ∙ h.0.same-side;
-              same_loans = p.same-loans ∙ h.0.same-loans;
+              same_room = p.same_room ∙ h.0.same_room;
+              same_side = p.same_side ∙ h.0.same_side;
+              same_loans = p.same_loans ∙ h.0.same_loans;
             },
             after_more worth calls i here there answer c.call-item.result taken c.call-item.is e ∙ h.1,
-            ap (λ xs. xs ++ answers worth there (drop (i + 1) calls)) c.push-reserved.ensures.items ∙ answers_more worth calls i here there answer c.call-item.result (vec_items c.loop-call.said) taken c.call-item.is e ∙ h.2,
+            ap (λ xs. xs ++ answers worth there (drop (i + 1) calls)) c.push_reserved.ensures.items ∙ answers_more worth calls i here there answer c.call-item.result (vec_items c.loop-call.said) taken c.call-item.is e ∙ h.2,
           ),
-      omega (arith, c.push-reserved.ensures.len, c.loop-call.invariant.1),
-      omega (arith, c.push-reserved.ensures.capacity, c.loop-call.invariant.2),
+      omega (arith, c.push_reserved.ensures.len, c.loop-call.invariant.1),
+      omega (arith, c.push_reserved.ensures.capacity, c.loop-call.invariant.2),
     )
 
 pub returns : goal.returns

@@ -12,8 +12,8 @@ returns g c =
     let before = view c.args.ledger.now room rs in
     let start = opened c.args.smallest c.args.farm room rs in
     record {
-      kept = c.perform-all.ensures.kept;
+      kept = c.perform_all.ensures.kept;
       ran = λ s.
-          let judged = accepted _ _ (c.in-default-open.ensures.answer s) in
-          (judged, ran g.M.CreditMethod.worth g.met.M.CreditMethod.lawful c.args.smallest c.args.farm room rs c.args.calls.now _ _ _ (b.proper c.args.book.now s).bounded judged (c.open.ensures.state s ∙ ap (λ j. open_leaves j before start) judged) (c.perform-all.ensures.state s) (c.perform-all.ensures.answered s));
+          let judged = accepted _ _ (c.in_default-open.ensures.answer s) in
+          (judged, ran g.M.CreditMethod.worth g.met.M.CreditMethod.lawful c.args.smallest c.args.farm room rs c.args.calls.now _ _ _ (b.proper c.args.book.now s).bounded judged (c.open.ensures.state s ∙ ap (λ j. open_leaves j before start) judged) (c.perform_all.ensures.state s) (c.perform_all.ensures.answered s));
     }
