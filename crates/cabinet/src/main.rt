@@ -1,6 +1,7 @@
 // Posts a month: reads rates and readings, and prints what each account is credited, with totals.
 #![tactic(auto)]
 
+use anyhow::bail;
 use cabinet_month::dollars::Dollars;
 use cabinet_month::entry::{Entry, Fault, Mark, Reading, read_entry};
 use cabinet_month::posting::{Posting, Totals, post, total};
@@ -62,8 +63,7 @@ fn read_month(rt: &HostRuntime) -> anyhow::Result<Month> {
             Ok(entry) => month.note(entry)?,
             Err(fault) => {
                 let wanted = wanted(fault);
-                let text = format!(in heap; "line {number}: expected {wanted}")?;
-                return Err(text.into());
+                bail!("line {number}: expected {wanted}");
             }
         }
     }
@@ -115,10 +115,7 @@ fn run(rt: &HostRuntime) -> anyhow::Result<()> {
     if let Err(refusal) = volumetric.set_rates(&month.rates) {
         let number = refusal.number();
         let place = refusal.place();
-        let text = format!(in rt.alloc();
-            "refusal {number} at place {place}: a rate is 1 to 1000000"
-        )?;
-        return Err(text.into());
+        bail!("refusal {number} at place {place}: a rate is 1 to 1000000");
     }
     table(rt, &volumetric, "kilowatt-hours", &month.kilowatt_hours)?;
     println!(rt)?;

@@ -1,5 +1,5 @@
 -- The step of a sum.
-use Rattle.std.proofs.Common.{take, sum_by, ap, ◌∙◌, arith}
+use Rattle.std.proofs.Common.{sum_by, ap, ◌∙◌, arith}
 use Rattle.std.proofs.lemmas.List.{take_all}
 use Rattle.std.proofs.lemmas.List.Sums.{sum_by_more}
 use Rattle.cabinet_month.specs.Postings.{at}
