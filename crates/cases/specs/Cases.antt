@@ -71,14 +71,14 @@ pub record Shared (o : Outcome) (shares : List ℕ) (rest : ℕ) : Type 0 where
   pub bank : o.state.bank ≡ rest
 
 -- What a bill of one account comes to: applied credit, units used, net credit and fee, and the units left.
-pub record ComesTo (o : Outcome) (credit units net-part fee-part rest : ℕ) : Type 0 where
-  pub answers : o.answer ≡ Ok (Billed (record { applied = credit; used = units; net = net-part; fee = fee-part }))
+pub record ComesTo (o : Outcome) (credit units net_part fee_part rest : ℕ) : Type 0 where
+  pub answers : o.answer ≡ Ok (Billed (record { applied = credit; used = units; net = net_part; fee = fee_part }))
   pub left : held_by o ≡ rest ∷ []
 
 -- How a member's applied credit is divided.
-pub record Divided (savings credit net-part fee-part : ℕ) : Type 0 where
-  pub net : net_credit Member savings credit ≡ net-part
-  pub fee : subscription_fee Member savings credit ≡ fee-part
+pub record Divided (savings credit net_part fee_part : ℕ) : Type 0 where
+  pub net : net_credit Member savings credit ≡ net_part
+  pub fee : subscription_fee Member savings credit ≡ fee_part
 
 abbrev pub line : ℕ → Size → ℕ → Line
 line number size percentage =

@@ -1,4 +1,6 @@
 // Postings worked by hand, shown of the definitions that the ledger's calls are proved equal to.
+#![tactic(auto)]
+
 ghost use Rattle.std.specs.Prelude.{◌≡◌};
 ghost use Rattle.cases.specs.Cases.{WorkedPostings, member, rated};
 ghost use Rattle.ledger.specs.Steps.{posting};
