@@ -1,4 +1,6 @@
 // Prints a small book, kept in a table and kept in an image by the same calls.
+#![tactic(auto)]
+
 ghost use Rattle.accounts.specs.declared.record.Record.{Record};
 
 use accounts::book::AccountBook;
