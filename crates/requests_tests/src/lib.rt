@@ -1,4 +1,6 @@
 // Tables of good and damaged request files.
+#![tactic(auto)]
+
 #[cfg(test)]
 mod damage;
 #[cfg(test)]
