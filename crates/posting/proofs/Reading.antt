@@ -1,5 +1,5 @@
 -- The first places of a table after a request file is read.
-use Rattle.std.proofs.Common.{◌≡◌, ℕ, List, [], ◌∷◌, ◌++◌, length, take, Ok, Err, Result, sym, refl, ap, ◌∙◌, arith}
+use Rattle.std.proofs.Common.{◌≡◌, ℕ, List, [], ◌∷◌, ◌++◌, length, take, Ok, Err, Result, refl, ap, ◌∙◌, arith}
 use Rattle.accounts.specs.declared.record.Line.{Line}
 use Rattle.requests.specs.Meaning.{counted, written}
 use Rattle.requests.specs.declared.fault.RequestRefusal.{RequestRefusal}

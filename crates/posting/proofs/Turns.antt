@@ -1,10 +1,9 @@
 -- One statement of a journal taken, and what the statements left come to.
-use Rattle.std.proofs.Common.{◌≡◌, ℕ, ◌+◌, ◌<◌, ◌≤◌, List, [], ◌∷◌, map, length, get_or, drop, Ok, Err, Result, sym, refl, ap, ◌∙◌}
+use Rattle.std.proofs.Common.{◌≡◌, ℕ, ◌+◌, ◌<◌, ◌≤◌, List, map, length, get_or, drop, Result, sym, ap, ◌∙◌}
 use Rattle.std.proofs.lemmas.List.{at_drop_more, at_drop_all}
 use Rattle.posting.specs.Orders.{and_then, next, headed, ordered, placed}
 use Rattle.posting.specs.Plans.{State, step, planned, told}
 use Rattle.posting.specs.declared.entry.Entry.{Entry}
-use Rattle.posting.specs.declared.order.Head.{Head}
 use Rattle.posting.specs.declared.order.OrderFault.{OrderFault}
 use Rattle.posting.specs.declared.order.Stage.{Stage}
 
