@@ -1,5 +1,7 @@
 // Posts two months of a small project through a run, with each crediting method and in each kind of book, and prints
 // every answer, the ledger and the accounts.
+#![tactic(auto)]
+
 use accounts::book::AccountBook;
 use accounts::record::{Kind, Line, Record, Size, State};
 use answer_text::answers::answer_line;
@@ -199,8 +201,6 @@ fn post_kilowatt_hours(rt: &HostRuntime) -> anyhow::Result<()> {
 }
 
 fn main(rt: HostRuntime) -> anyhow::Result<()> {
-    let posted = post_cents(&rt);
-    posted?;
-    let posted = post_kilowatt_hours(&rt);
-    posted
+    post_cents(&rt)?;
+    post_kilowatt_hours(&rt)
 }
