@@ -41,6 +41,7 @@ def own_names():
             continue
         inside = False
         for line in open(p, encoding="utf-8"):
+            own.update(m.group(1) for m in re.finditer(r"\bas (" + PIECE + r")(?=[,}])", line) if "-" in m.group(1))
             if line.startswith("--") or line.startswith("use ") or line.startswith("pub use "):
                 continue
             m = HEAD.match(line)

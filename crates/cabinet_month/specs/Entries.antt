@@ -1,11 +1,11 @@
 -- What a line of a month's file says.
 use Rattle.std.specs.Prelude.{ℕ, Bool, cond, ◌&&◌, List, length, Some, None, Ok, Err, Option, Result, ◌==◌, slice_index}
 use Rattle.cabinet_month.specs.declared.entry.Entry.{Entry}
-use Rattle.cabinet_month.specs.declared.entry.Entry.TheVariants.{Rate as a-rate, Reading as a_reading}
+use Rattle.cabinet_month.specs.declared.entry.Entry.TheVariants.{Rate as a_rate, Reading as a_reading}
 use Rattle.cabinet_month.specs.declared.entry.Mark.{Mark}
 use Rattle.cabinet_month.specs.declared.entry.Mark.TheVariants.{Cents, KilowattHours}
 use Rattle.cabinet_month.specs.declared.entry.Fault.{Fault}
-use Rattle.cabinet_month.specs.declared.entry.Fault.TheVariants.{Mark as mark-fault, Account, Class, Rate, Units, Bill}
+use Rattle.cabinet_month.specs.declared.entry.Fault.TheVariants.{Mark as mark_fault, Account, Class, Rate, Units, Bill}
 use Rattle.cabinet_month.specs.Fields.{after_field, first_field, number_from}
 
 -- A field's number goes on to the rest of the line; without one the line has that field's fault.
@@ -18,7 +18,7 @@ abbrev pub rate_of : List ℕ → Result Entry Fault
 rate_of bs =
     needed (number_from 1 16 (first_field bs)) Class λ k.
     needed (number_from 0 4_294_967_295 (after_field bs)) Rate λ r.
-    Ok (a-rate k r)
+    Ok (a_rate k r)
 
 -- An account, its class, the units that it holds and its bill in cents.
 abbrev pub reading_of : Mark → List ℕ → Result Entry Fault
@@ -38,4 +38,4 @@ abbrev pub entry_of : List ℕ → Result Entry Fault
 entry_of bs =
     cond (is_letter 82 (first_field bs)) (rate_of (after_field bs))
     (cond (is_letter 67 (first_field bs)) (reading_of Cents (after_field bs))
-    (cond (is_letter 75 (first_field bs)) (reading_of KilowattHours (after_field bs)) (Err mark-fault)))
+    (cond (is_letter 75 (first_field bs)) (reading_of KilowattHours (after_field bs)) (Err mark_fault)))

@@ -7,9 +7,9 @@ use Rattle.std.proofs.lemmas.Slice.{between_to_end}
 use Rattle.std.proofs.lemmas.List.{at_drop_more, at_drop_all}
 use Rattle.statements.specs.Meanings.{Meaning, statement_of}
 use Rattle.statements.specs.declared.statement.ParseError.{ParseError}
-use Rattle.statements.specs.declared.statement.ParseError.TheVariants.{Expected as expected, NoMemory as parse-memory}
+use Rattle.statements.specs.declared.statement.ParseError.TheVariants.{Expected as expected, NoMemory as parse_memory}
 use Rattle.journal_text.specs.declared.entries.JournalFault.{JournalFault}
-use Rattle.journal_text.specs.declared.entries.JournalFault.TheVariants.{Line as at-line, NoMemory}
+use Rattle.journal_text.specs.declared.entries.JournalFault.TheVariants.{Line as at_line, NoMemory}
 use Rattle.journal_text.specs.Journals.{Text, and_then, one_more, lines_after, some_line, read_on, Read, Told}
 
 -- what is left of a text at a place, where the line began at another
@@ -41,7 +41,7 @@ pub counted : (t : Text) (r : Result (Option Meaning) ParseError) (u : Text) →
 counted t (Ok None) u e = grind (arith, e)
 counted t (Ok (Some m)) u e = grind (arith, e)
 counted t (Err (expected what)) u e = grind (arith, e)
-counted t (Err parse-memory) u e = grind (arith, e)
+counted t (Err parse_memory) u e = grind (arith, e)
 
 module _ (ls : List (List ℕ)) (line : List ℕ) (t : Text) where
   pub line_taken : (u : Text) → one_more t (statement_of line) ≡ Ok u → read_on ls u ≡ read_on (line ∷ ls) t
@@ -58,7 +58,7 @@ module _ (ls : List (List ℕ)) (line : List ℕ) (t : Text) where
 
 -- a text is refused where a line is
 pub refused_told : (m n : Result Text JournalFault) (f : JournalFault) (t : Text) → (n ≡ Err f → m ≡ Err f) → Read n (Err f) t → Told m (Err f)
-refused_told m n (at-line l w) t h r = h r
+refused_told m n (at_line l w) t h r = h r
 refused_told m n NoMemory t h r = tt
 
 pub last_none : (rest : List ℕ) (t : Text) → length rest ≡ 0 → read_on (some_line rest) t ≡ Ok t

@@ -2,12 +2,12 @@
 use Rattle.std.specs.Prelude.{◌≡◌, ℕ, ◌+◌, cond, List, [], ◌∷◌, ◌++◌, map, Some, None, Ok, Err, vec_items, Option, Result, ◌==◌}
 use Rattle.statements.specs.Meanings.{Meaning, statement_of}
 use Rattle.statements.specs.declared.statement.ParseError.{ParseError}
-use Rattle.statements.specs.declared.statement.ParseError.TheVariants.{Expected as expected, NoMemory as parse-memory}
+use Rattle.statements.specs.declared.statement.ParseError.TheVariants.{Expected as expected, NoMemory as parse_memory}
 use Rattle.posting.specs.Plans.{told}
 use Rattle.posting.specs.declared.entry.Entry.{Entry}
 use Rattle.journal_text.specs.declared.entries.Journal.{Journal}
 use Rattle.journal_text.specs.declared.entries.JournalFault.{JournalFault}
-use Rattle.journal_text.specs.declared.entries.JournalFault.TheVariants.{Line as at-line, NoMemory}
+use Rattle.journal_text.specs.declared.entries.JournalFault.TheVariants.{Line as at_line, NoMemory}
 
 -- a line that has some bytes
 abbrev pub some_line : List ℕ → List (List ℕ)
@@ -47,8 +47,8 @@ with_statement t m = record { stated = t.stated ++ (t.lines, (m, [])) ∷ []; li
 abbrev pub one_more : Text → Result (Option Meaning) ParseError → Result Text JournalFault
 one_more t (Ok None) = Ok (line_read t)
 one_more t (Ok (Some m)) = Ok (with_statement (line_read t) m)
-one_more t (Err (expected what)) = Err (at-line (t.lines + 1) what)
-one_more t (Err parse-memory) = Err NoMemory
+one_more t (Err (expected what)) = Err (at_line (t.lines + 1) what)
+one_more t (Err parse_memory) = Err NoMemory
 
 abbrev pub and_then : {A B E : Type 0} → Result A E → (A → Result B E) → Result B E
 and_then (Ok a) f = f a
@@ -62,11 +62,11 @@ read_on (l ∷ ls) t = and_then (one_more t (statement_of l)) (read_on ls)
 -- a line was read as it should be, unless memory fails
 abbrev pub Read : Result Text JournalFault → Result (Unit {0}) JournalFault → Text → Type 0
 Read m (Ok _) t = m ≡ Ok t
-Read m (Err (at-line line what)) t = m ≡ Err (at-line line what)
+Read m (Err (at_line line what)) t = m ≡ Err (at_line line what)
 Read m (Err NoMemory) t = Unit {0}
 
 -- a text was read as it should be, unless memory fails
 abbrev pub Told : Result Text JournalFault → Result Journal JournalFault → Type 0
 Told m (Ok j) = m ≡ Ok (seen j)
-Told m (Err (at-line line what)) = m ≡ Err (at-line line what)
+Told m (Err (at_line line what)) = m ≡ Err (at_line line what)
 Told m (Err NoMemory) = Unit {0}
