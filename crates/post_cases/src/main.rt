@@ -1,5 +1,6 @@
 // Further postings, refusals and boundaries: each is performed, and printed with `ok` where it is what was expected by
 // hand, and with `differs` where it is not.
+#![tactic(auto)]
 
 mod enrolments;
 mod files;
