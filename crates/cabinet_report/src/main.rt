@@ -1,4 +1,6 @@
 // Packs a request file from a text, shows it and a torn one, and prints the report of a quarter that is posted with it.
+#![tactic(auto)]
+
 use cabinet_tasks::books::{Paper, post_file};
 use cabinet_tasks::files::{pack, show};
 

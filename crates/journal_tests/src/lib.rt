@@ -1,4 +1,6 @@
 // Journals with each kind of mistake, with the line and the words with which each is refused; and a long journal.
+#![tactic(auto)]
+
 #[cfg(test)]
 mod long;
 #[cfg(test)]

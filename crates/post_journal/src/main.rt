@@ -1,4 +1,6 @@
 // The cabinet: posts a journal and prints what happened, or the host's monthly report; packs and shows request files.
+#![tactic(auto)]
+
 use anyhow::anyhow;
 use cabinet_tasks::books::{Paper, post_file, post_input};
 use cabinet_tasks::files::{pack, show};

@@ -1,4 +1,6 @@
 // The host's monthly report: the summary of a closed period, and what the host is paid and why.
+#![tactic(auto)]
+
 mod cells;
 pub mod dollars;
 pub mod payment;

@@ -41,18 +41,18 @@ loop-place-preserved c =
           ∙ l.invariant.2,
     )
 
-pub returns-in-err-add-last : goal.returns-in-err-add-last
-returns-in-err-add-last c =
+pub returns-in-err-add_last : goal.returns-in-err-add_last
+returns-in-err-add_last c =
     let text = c.args.text.now in
     let l = c.loop-place in
-    let fault = c.in-err-add-last.field-0.0 in
-    let is : c.from-residual-in-err-add-last.result ≡ Err fault = search rules in
+    let fault = c.in-err-add_last.field-0.0 in
+    let is : c.from-residual-in-err-add_last.result ≡ Err fault = search rules in
     let left = ap (λ ls. read_on ls (seen l.journal)) (sym (at_end text l.start l.place c.loop-place-test.false)) ∙ l.invariant.2 in
     subst (λ r. Told (read_on (lines_of text) empty) r) (sym is)
-    (refused_told _ _ fault (seen c.add-last.new.self) (λ e. sym left ∙ e) c.in-err-add-last.ensures)
+    (refused_told _ _ fault (seen c.add_last.new.self) (λ e. sym left ∙ e) c.in-err-add_last.ensures)
 
 pub returns : goal.returns
 returns c =
     let l = c.loop-place in
     let left = ap (λ ls. read_on ls (seen l.journal)) (sym (at_end c.args.text.now l.start l.place c.loop-place-test.false)) ∙ l.invariant.2 in
-    sym left ∙ c.in-ok-add-last.ensures
+    sym left ∙ c.in-ok-add_last.ensures

@@ -11,7 +11,7 @@ loop-column-preserved c =
     let l = c.loop-column in (
       omega (arith, l.invariant.0),
       omega (arith, c.loop-column-test.true),
-      spaces_more (string_bytes c.args.out.now) (string_bytes l.out) (string_bytes c.push-str.new.self) (length c.args.text.now) l.column l.invariant.2 l.invariant.0 (search rules),
+      spaces_more (string_bytes c.args.out.now) (string_bytes l.out) (string_bytes c.push_str.new.self) (length c.args.text.now) l.column l.invariant.2 l.invariant.0 (search rules),
     )
 
 pub returns : goal.returns
@@ -19,4 +19,4 @@ returns c =
     let l = c.loop-column in
     let n = length c.args.text.now in
     let all : l.column - n ≡ c.args.width - n = omega (arith, l.invariant.1, c.loop-column-test.false) in
-    spaces_end (string_bytes c.args.out.now) (string_bytes l.out) (string_bytes c.push-str-2.new.self) n l.column l.invariant.2 c.args.text.now c.args.width all (search rules)
+    spaces_end (string_bytes c.args.out.now) (string_bytes l.out) (string_bytes c.push_str-2.new.self) n l.column l.invariant.2 c.args.text.now c.args.width all (search rules)

@@ -1,4 +1,4 @@
-use Rattle.std.proofs.Common.{arith, rules}
+use Rattle.std.proofs.Common.{arith}
 use Rattle.report_text.specs.Rows.{cell, blank}
 use Rattle.report_text.proofs.Adding.{total_more, total_end}
 use Rattle.report_text.proofs.row.Column.total.Goals as goal
