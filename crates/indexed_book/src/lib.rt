@@ -1,4 +1,6 @@
 // An account book over any account book, which finds an account by hints of the place where it stands.
+#![tactic(auto)]
+
 ghost use Rattle.std.specs.Prelude.{◌≡◌, ℕ, ◌<◌, ◌∷◌, length, MatchOption, ◌≢◌, slice_index};
 ghost use Rattle.accounts.specs.Books.{accounts, find, takes, added, Left};
 ghost use Rattle.indexed_book.specs.Hints.{no_place, told, Slot, book_of, hints_of, loan_of, is_at, or_else};
@@ -96,17 +98,17 @@ impl<'a, 'h, B: AccountBook> IndexedBook<'a, 'h, B> {
 }
 
 impl<'a, 'h, B: AccountBook> AccountBook for IndexedBook<'a, 'h, B> {
-    ghost records = { λ b. B.AccountBook.records (book-of b) };
+    ghost records = { λ b. B.AccountBook.records (book_of b) };
 
-    ghost room = { λ b. B.AccountBook.room (book-of b) };
+    ghost room = { λ b. B.AccountBook.room (book_of b) };
 
-    ghost side = { λ b. B.AccountBook.side (book-of b) };
+    ghost side = { λ b. B.AccountBook.side (book_of b) };
 
-    ghost loans = { λ b. loan-of b ∷ B.AccountBook.loans (book-of b) };
+    ghost loans = { λ b. loan_of b ∷ B.AccountBook.loans (book_of b) };
 
-    ghost sound = { λ b. B.AccountBook.sound (book-of b) };
+    ghost sound = { λ b. B.AccountBook.sound (book_of b) };
 
-    ghost proper = { λ b s. B.AccountBook.proper (book-of b) s };
+    ghost proper = { λ b s. B.AccountBook.proper (book_of b) s };
 
     fn count(&self) -> usize {
         self.book.count()
@@ -144,8 +146,8 @@ impl<'a, 'h, B: AccountBook> AccountBook for IndexedBook<'a, 'h, B> {
 // Adds a record to a book through its hints, and lets the hints go: the book answers and is left as if it had been asked
 // itself.
 pub fn add_indexed<B: AccountBook>(book: &mut B, hints: &mut [usize], new: Record) -> bool
-    ensures answer { sound book.old → result ≡ takes (records book.old) (room book.old) new }
-    ensures after { sound book.old → Left (sound book.new) (records book.new) (added result (records book.old) new) (room book.new) (room book.old) (side book.new) (side book.old) (loans book.new) (loans book.old) }
+    ensures answer { B.AccountBook.sound book.old → result ≡ takes (B.AccountBook.records book.old) (B.AccountBook.room book.old) new }
+    ensures after { B.AccountBook.sound book.old → Left (B.AccountBook.sound book.new) (B.AccountBook.records book.new) (added result (B.AccountBook.records book.old) new) (B.AccountBook.room book.new) (B.AccountBook.room book.old) (B.AccountBook.side book.new) (B.AccountBook.side book.old) (B.AccountBook.loans book.new) (B.AccountBook.loans book.old) }
 {
     let mut indexed = IndexedBook::new(book, hints);
     indexed.add(new)
