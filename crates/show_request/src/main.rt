@@ -1,4 +1,6 @@
 // Prints the lines and remarks of request files, or why a file is declined.
+#![tactic(auto)]
+
 use accounts::record::{Kind, Line, Size};
 use request_text::refusal_text;
 use requests::reader::{read, remark};
