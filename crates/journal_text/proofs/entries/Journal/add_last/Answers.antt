@@ -1,6 +1,6 @@
 use Rattle.std.proofs.Common.{sym, rules}
 use Rattle.std.proofs.lemmas.Bool.{eqb-true, eqb-false}
-use Rattle.journal_text.specs.Journals.{seen, Read}
+use Rattle.journal_text.specs.Journals.{seen}
 use Rattle.journal_text.proofs.Cutting.{last_none, last_some}
 use Rattle.journal_text.proofs.entries.Journal.add_last.Goals as goal
 

@@ -1,6 +1,6 @@
-use Rattle.std.proofs.Common.{◌≡◌, [], ◌∷◌, vec_items, ap, ◌∙◌, rules}
+use Rattle.std.proofs.Common.{rules}
 use Rattle.std.proofs.lemmas.List.{map-append}
-use Rattle.journal_text.specs.Journals.{Text, stated_by}
+use Rattle.journal_text.specs.Journals.{stated_by}
 use Rattle.journal_text.proofs.entries.Journal.keep.Goals as goal
 
 pub returns : goal.returns
