@@ -15,7 +15,7 @@ fn says(rt: &impl Abort, heap: Global, line: &str, text: &str) -> Result<(), Fai
             assert_eq!(rt; written.as_str(), text, "{}", line);
             Ok(())
         }
-        None => Err(Fail::new("no statement")).note(line),
+        None => Err(Fail::new(format_args!("no statement: {line}"))),
     }
 }
 
