@@ -4,7 +4,7 @@ use Rattle.std.proofs.lemmas.Bool.{and_from, and_parts, eq-eqb, eqb-true, cond-t
 use Rattle.std.proofs.lemmas.Bool.Decides.{nat_tests}
 use Rattle.std.proofs.lemmas.List.{take-append-drop, drop-drop, length-take-le, length-drop, drop_more, drop_all}
 use Rattle.std.proofs.ByRecursion.{All-take, All-drop}
-use Rattle.std.specs.List.{AllByRecursion as All}
+use Rattle.std.specs.List.{AllByRecursion}
 use Rattle.accounts.specs.declared.record.Size.{Size}
 use Rattle.accounts.specs.declared.record.Size.TheVariants.{Small, Large}
 use Rattle.accounts.specs.declared.record.Kind.{Kind}
@@ -165,7 +165,7 @@ zeros : le 6 0 ≡ replicate 6 0
 unfolding le
 zeros = refl
 
-module _ (bs : List ℕ) (small : All (λ b. b < 256) bs) where
+module _ (bs : List ℕ) (small : AllByRecursion (λ b. b < 256) bs) where
   marks_at : (c z k s : ℕ) (rest : List ℕ) → length bs ≡ 36 → c ≡ get_or bs 14 0 → z ≡ get_or bs 15 0 → k ≡ get_or bs 16 0 → s ≡ get_or bs 17 0 → rest ≡ drop 18 bs → c ∷ z ∷ k ∷ s ∷ rest ≡ drop 14 bs
   marks_at c z k s rest n ec ez ek es e =
       let dc : drop 14 bs ≡ get_or bs 14 0 ∷ drop 15 bs = drop_more bs 14 0 (omega arith) in

@@ -1,7 +1,8 @@
 -- Encoding and decoding field by field.
 use Rattle.std.proofs.Common.{◌≡◌, ℕ, ◌<◌, ◌≤◌, List, get_or, take, drop, set, replicate, Some, sym, refl, ap, ◌∙◌, arith}
 use Rattle.std.proofs.lemmas.List.{take_all, length-take}
-use Rattle.std.specs.List.{AllByRecursion as All}
+use Rattle.std.proofs.ByRecursion.{All-from_get_or}
+use Rattle.std.specs.List.{All}
 use Rattle.accounts.specs.declared.record.Size.{Size}
 use Rattle.accounts.specs.declared.record.Kind.{Kind}
 use Rattle.accounts.specs.declared.record.State.{State}
@@ -49,4 +50,4 @@ built r p v l z k s b₁ b₂ b₃ b₄ b₅ e₁ ep e₂ ev e₃ ez ek es e₄ 
 
 -- no other bytes decode to a record
 pub only_encoded : (r : Record) (bs : List ℕ) → All (λ b. b < 256) bs → decoded bs ≡ Some r → bs ≡ encoded r
-only_encoded r bs small e = sym (encoded_from bs small r (holds_decoded bs r e))
+only_encoded r bs small e = sym (encoded_from bs (All-from_get_or (λ b. b < 256) bs 0 (λ i h. small i 0 h)) r (holds_decoded bs r e))

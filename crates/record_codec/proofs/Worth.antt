@@ -3,7 +3,7 @@ use Rattle.std.proofs.Common.{◌≡◌, ℕ, zero, suc, ◌+◌, ◌-◌, ◌*�
 use native.Mathlib.Nat.{pow-le-pow_right}
 use lib.Seq.{sets, sets-eq}
 use Rattle.std.proofs.lemmas.List.{at_drop_more, at_drop_all}
-use Rattle.std.specs.List.{AllByRecursion as All}
+use Rattle.std.specs.List.{AllByRecursion}
 use Rattle.record_codec.specs.Bytes.{le, worth, written}
 
 pub length_le : (w n : ℕ) → length (le w n) ≡ w
@@ -21,7 +21,7 @@ worth_le (suc w) n h =
     omega arith
 
 -- bytes are the bytes of their worth
-pub le_worth : (bs : List ℕ) → All (λ b. b < 256) bs → le (length bs) (worth bs) ≡ bs
+pub le_worth : (bs : List ℕ) → AllByRecursion (λ b. b < 256) bs → le (length bs) (worth bs) ≡ bs
 unfolding le worth
 le_worth [] h = refl
 le_worth (b ∷ bs) (h, hs) =

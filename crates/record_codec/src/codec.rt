@@ -1,6 +1,5 @@
 // An account record as 36 bytes, and back.
-ghost use Rattle.std.specs.Prelude.{◌≡◌, ℕ, ◌<◌, true, List, length, replicate, Some};
-ghost use Rattle.std.specs.List.{AllByRecursion as All};
+ghost use Rattle.std.specs.Prelude.{◌≡◌, ℕ, ◌<◌, true, List, length, replicate, Some, All};
 ghost use Rattle.accounts.specs.declared.record.Record.{Record};
 ghost use Rattle.accounts.specs.Ranges.{in_range};
 ghost use Rattle.record_codec.specs.Codec.{encoded, ranged, fields_in, decoded};
