@@ -1,10 +1,9 @@
 -- Where an account stands in a list of accounts.
-use Rattle.std.proofs.Common.{◌≡◌, ℕ, zero, suc, ◌+◌, ◌<◌, ◌≤◌, Bool, true, false, cond, not, ◌&&◌, ◌||◌, eqb, List, [], ◌∷◌, ◌++◌, map, length, get_or, drop, is_some, Some, None, Option, sym, refl, ap, ◌∙◌, arith}
+use Rattle.std.proofs.Common.{◌≡◌, ℕ, ◌+◌, ◌<◌, ◌≤◌, true, false, cond, ◌||◌, eqb, List, [], ◌∷◌, ◌++◌, length, get_or, drop, is_some, Some, None, refl, ap, ◌∙◌, arith}
 use Rattle.std.proofs.lemmas.Bool.Decides.{nat_tests}
 use Rattle.std.proofs.lemmas.List.{at_drop_more, at_drop_all, get_or-map, length-map}
-use Rattle.std.specs.List.{slice_get}
 use Rattle.accounts.specs.declared.record.Record.{Record}
-use Rattle.accounts.specs.Books.{accounts, find_from, find, present, distinct}
+use Rattle.accounts.specs.Books.{accounts, find_from, present, distinct}
 
 -- one record further on in a search from the front
 pub find_step : (a i : ℕ) (rs : List Record) (d : Record) → i < length rs → find_from i a (drop i (accounts rs)) ≡ cond (eqb (get_or rs i d).account a) (Some i) (find_from (i + 1) a (drop (i + 1) (accounts rs)))

@@ -67,12 +67,12 @@ located a i room rs r p e n =
       told = f.told ∙ ap Some same;
       ranged = every_nth in_range rs i r p.ranged n;
       whose = ap (λ x. x.account) (sym same) ∙ f.whose;
-      fitting = λ new w k. fits-there f new w k;
+      fitting = λ new w k. fits_there f new w k;
       putting = λ new w. f.puts new w;
     }
   where
-    fits-there : Found rs a i → (new : Record) → new.account ≡ a → in_range new ≡ true → suits rs i new ≡ true
-    fits-there f new w k =
+    fits_there : Found rs a i → (new : Record) → new.account ≡ a → in_range new ≡ true → suits rs i new ≡ true
+    fits_there f new w k =
         and_from (in_range new) (same_account (slice_get rs i) new) k
         (subst (λ o. same_account o new ≡ true) (sym f.at) (eq-eqb f.found.account new.account (f.whose ∙ sym w)))
 

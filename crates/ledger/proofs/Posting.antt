@@ -52,8 +52,8 @@ module _ (worth : ℕ → ℕ → ℕ) (s : State) (applied fees account cents :
 
   -- `new` is the record that the book was given
   module _ {S : Type 0} (new : Record) (rs : List Record) (answer : Bool) (room more : ℕ) (side side₀ loans loans₀ : List ℕ) where
-    pub bill-posted : Bills worth (s.closed + 1) applied account cents s.records x → s.closed + 1 ≤ 1200 → more ≡ counted x.holder.kind x.posting.applied → new ≡ billed (s.closed + 1) x.posting.used x.holder → answer ≡ suits s.records x.place new → Left S rs (replaced answer s.records x.place new) room s.room side side₀ loans loans₀ → leaves more room rs x.posting (Billed x.posting) ≡ bill worth s applied fees account cents
-    bill-posted b h m is says l =
+    pub bill_posted : Bills worth (s.closed + 1) applied account cents s.records x → s.closed + 1 ≤ 1200 → more ≡ counted x.holder.kind x.posting.applied → new ≡ billed (s.closed + 1) x.posting.used x.holder → answer ≡ suits s.records x.place new → Left S rs (replaced answer s.records x.place new) room s.room side side₀ loans loans₀ → leaves more room rs x.posting (Billed x.posting) ≡ bill worth s applied fees account cents
+    bill_posted b h m is says l =
         let k = billed_in_range (s.closed + 1) x.posting.used x.holder h b.place.ranged in
         let p = x.posting in
         let n = counted x.holder.kind p.applied in
@@ -64,8 +64,8 @@ module _ (worth : ℕ → ℕ → ℕ) (s : State) (applied fees account cents :
         ∙ ap (λ q. leaves (counted x.holder.kind q.applied) s.room (put (billed (s.closed + 1) q.used x.holder) s.records) q (Billed q)) b.posted
         ∙ sym (ap (bill_judged worth s applied fees cents) b.judged)
 
-    pub final-posted : Bills worth (s.closed + 1) applied account cents s.records x → s.closed + 1 ≤ 1200 → more ≡ counted x.holder.kind x.posting.applied → new ≡ ended (s.closed + 1) x.holder → answer ≡ suits s.records x.place new → Left S rs (replaced answer s.records x.place new) room s.room side side₀ loans loans₀ → leaves more room rs x.posting (FinallyBilled x.posting (x.holder.held - x.posting.used)) ≡ final_bill worth s applied fees account cents
-    final-posted b h m is says l =
+    pub final_posted : Bills worth (s.closed + 1) applied account cents s.records x → s.closed + 1 ≤ 1200 → more ≡ counted x.holder.kind x.posting.applied → new ≡ ended (s.closed + 1) x.holder → answer ≡ suits s.records x.place new → Left S rs (replaced answer s.records x.place new) room s.room side side₀ loans loans₀ → leaves more room rs x.posting (FinallyBilled x.posting (x.holder.held - x.posting.used)) ≡ final_bill worth s applied fees account cents
+    final_posted b h m is says l =
         let k = ended_in_range (s.closed + 1) x.holder h b.place.ranged in
         let p = x.posting in
         let held = x.holder.held in

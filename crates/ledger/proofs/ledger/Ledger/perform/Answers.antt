@@ -2,7 +2,7 @@ use Rattle.std.proofs.Common.{◌+◌, ◌≤◌, sym, ap, ◌∙◌, ap₂, ari
 use Rattle.ledger.specs.Phases.{open_periods}
 use Rattle.ledger.specs.Steps.{at_phase}
 use Rattle.ledger.specs.Views.{view}
-use Rattle.ledger.proofs.Posting.{bill-posted, final-posted}
+use Rattle.ledger.proofs.Posting.{bill_posted, final_posted}
 use Rattle.ledger.proofs.ledger.Ledger.perform.Goals as goal
 
 pub returns-in_ok-bill-in-InPeriod-Bill : goal.returns-in_ok-bill-in-InPeriod-Bill
@@ -17,7 +17,7 @@ returns-in_ok-bill-in-InPeriod-Bill g c =
           let h = c.replace.ensures.after s in
           record { stays = h.stays; same_room = h.same_room; same_side = h.same_side; same_loans = h.same_loans };
       steps = λ s.
-          bill-posted (g.M.CreditMethod.worth a.method) v a.applied a.fees a.account a.cents c.in_ok-bill-in-InPeriod-Bill.bill c.after_bill.result _ _ _ _ _ _ _ _ (c.in_ok-bill-in-InPeriod-Bill.ensures.judged s) period c.counted_credit.ensures c.after_bill.ensures (c.replace.ensures.answer s) (c.replace.ensures.after s)
+          bill_posted (g.M.CreditMethod.worth a.method) v a.applied a.fees a.account a.cents c.in_ok-bill-in-InPeriod-Bill.bill c.after_bill.result _ _ _ _ _ _ _ _ (c.in_ok-bill-in-InPeriod-Bill.ensures.judged s) period c.counted_credit.ensures c.after_bill.ensures (c.replace.ensures.answer s) (c.replace.ensures.after s)
           ∙ sym (ap₂ (at_phase g.M.CreditMethod.worth v) a.is-0 a.is-1);
     }
 
@@ -34,6 +34,6 @@ returns-in_ok-bill-in-InPeriod-FinalBill g c =
           let h = replaces.after s in
           record { stays = h.stays; same_room = h.same_room; same_side = h.same_side; same_loans = h.same_loans };
       steps = λ s.
-          final-posted (g.M.CreditMethod.worth a.method) v a.applied a.fees a.account a.cents c.in_ok-bill-in-InPeriod-FinalBill.bill c.after_final_bill.result _ _ _ _ _ _ _ _ (c.in_ok-bill-in-InPeriod-FinalBill.ensures.judged s) period c.counted_credit-in-InPeriod-FinalBill.ensures c.after_final_bill.ensures (replaces.answer s) (replaces.after s)
+          final_posted (g.M.CreditMethod.worth a.method) v a.applied a.fees a.account a.cents c.in_ok-bill-in-InPeriod-FinalBill.bill c.after_final_bill.result _ _ _ _ _ _ _ _ (c.in_ok-bill-in-InPeriod-FinalBill.ensures.judged s) period c.counted_credit-in-InPeriod-FinalBill.ensures c.after_final_bill.ensures (replaces.answer s) (replaces.after s)
           ∙ sym (ap₂ (at_phase g.M.CreditMethod.worth v) a.is-0 a.is-1);
     }
