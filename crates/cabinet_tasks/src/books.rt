@@ -60,7 +60,7 @@ pub fn post_file(rt: &HostRuntime, paper: Paper, name: &str) -> anyhow::Result<b
     match fs::read(rt, name) {
         Ok(text) => post_text(rt, paper, folder_of(name), text.as_slice()),
         Err(why) => {
-            eprintln!(rt; "cabinet: {name} cannot be read: {why}")?;
+            eprintln!(rt; "post_journal: {name} cannot be read: {why}")?;
             Ok(false)
         }
     }

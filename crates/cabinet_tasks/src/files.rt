@@ -93,7 +93,7 @@ fn tell_refusal(rt: &HostRuntime, why: WriteRefusal, numbers: &[usize]) -> anyho
     };
     match line {
         Some(number) => eprintln!(rt; "text line {number}: {reason}")?,
-        None => eprintln!(rt; "cabinet: {reason}")?,
+        None => eprintln!(rt; "post_journal: {reason}")?,
     }
     Ok(())
 }

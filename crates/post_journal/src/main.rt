@@ -1,4 +1,4 @@
-// The cabinet: posts a journal and prints what happened, or the host's monthly report; packs and shows request files.
+// Posts a journal and prints what happened, or the host's monthly report; packs and shows request files.
 #![tactic(auto)]
 
 use anyhow::anyhow;
@@ -8,7 +8,7 @@ use cabinet_tasks::help::HELP;
 use std::env;
 
 fn misused(rt: &HostRuntime, what: &str) -> anyhow::Result<bool> {
-    eprintln!(rt; "cabinet: {what}; cabinet --help explains")?;
+    eprintln!(rt; "post_journal: {what}; post_journal --help explains")?;
     Ok(false)
 }
 
