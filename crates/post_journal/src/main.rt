@@ -1,11 +1,11 @@
 // Posts a journal and prints what happened, or the host's monthly report; packs and shows request files.
 #![tactic(auto)]
 
-use anyhow::anyhow;
 use cabinet_tasks::books::{Paper, post_file, post_input};
 use cabinet_tasks::files::{pack, show};
 use cabinet_tasks::help::HELP;
 use std::env;
+use std::process::ExitCode;
 
 fn misused(rt: &HostRuntime, what: &str) -> anyhow::Result<bool> {
     eprintln!(rt; "post_journal: {what}; post_journal --help explains")?;
@@ -47,10 +47,10 @@ fn perform(rt: &HostRuntime) -> anyhow::Result<bool> {
     }
 }
 
-fn main(rt: HostRuntime) -> anyhow::Result<()> {
-    match perform(&rt) {
-        Ok(true) => Ok(()),
-        Ok(false) => Err(anyhow!("refused")),
-        Err(error) => Err(error),
+fn main(rt: HostRuntime) -> anyhow::Result<ExitCode> {
+    if perform(&rt)? {
+        Ok(ExitCode::SUCCESS)
+    } else {
+        Ok(ExitCode::FAILURE)
     }
 }
