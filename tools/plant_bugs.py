@@ -10,12 +10,14 @@ LIST is a file of bugs (without one: every list in tools/planted/). A bug is fou
     old: TEXT that stands once in the file
     new: TEXT in its place
 
-`\\n` in a text stands for a line's end. A bug in specs/ is in the same form. For each bug the crate is checked with `rt dev`.
-Where it is still proved, each program above it is run with `rt try`, which compares its output; then the crates that rest
-on it are checked with `rt dev`, and those of tests with `rt test`. What is printed for each: the verdict (by what it is
-refused, or PROVED), and the first complaint. The status is 1 where a bug is caught by nothing.
+`\\n` in a text stands for a line's end. A bug in specs/ is in the same form. For each bug `rt check` is run in the crate.
+Where that still proves it, each program above it is built with `rt run`, and what it prints is compared with its file
+stdout; then the crates that rest on it are checked, with `rt test` where they are tests. What is printed for each bug: the
+verdict (by what it is refused, or PROVED), and the first complaint. A text that cannot be read or compiled has no verdict.
+The status is 1 where a bug is caught by nothing.
 
-The copy is made once in FOLDER (/tmp/planted without it), with target/, so that only what a bug touches is proved again.
+The copy is made once in FOLDER (/tmp/planted without it), with what `rt check` kept in each out/, so that only what a bug
+touches is proved again.
 """
 import argparse
 import glob
@@ -24,6 +26,11 @@ import re
 import shutil
 import subprocess
 import sys
+import tempfile
+
+SECONDS = 120
+# a proof that names what the bug took away says little of the contract
+GONE = r"proofs/.*(has no field|is not in scope|has no `|was not admitted)"
 
 
 def bugs(path):
@@ -53,47 +60,87 @@ def above(deps, crate):
     return found
 
 
-def run(root, *words):
-    done = subprocess.run(["rt", *words], cwd=root, capture_output=True, text=True)
-    return done.returncode, (done.stdout + done.stderr).split("\n")
+def rt(folder, word):
+    done = subprocess.run(["rt", word], cwd=folder, stdin=subprocess.DEVNULL, capture_output=True, text=True, errors="replace")
+    return done.returncode, done.stdout.rstrip().split("\n"), done.stderr.split("\n")
 
 
 def complaint(lines):
     """The first line that says what fails and where."""
-    for pattern in (r"crates/\w+/(src|proofs|specs)/.*(error|not proved)", r"(not proved|FAIL|failed|refused)"):
-        for line in lines:
-            if re.search(pattern, line) and "NOT PROVED" not in line:
-                return re.sub(r"^(note|error): |\S*/(?=crates/)", "", line.strip())[:200]
-    return ""
+    place = r"(?:note: |error: )?(?:\./)?((?:src|proofs|specs)/\S+:\d+:\d+: (?:error|it is not proved).*)"
+    told = [found[1] for found in (re.match(place, line) for line in lines) if found]
+    return next((line for line in told if not re.match(GONE, line)), told[0] if told else "")[:200]
+
+
+def check(folder):
+    """How a check of a crate ends: nothing where it is proved, else by what it is refused, and the first complaint."""
+    status, lines, errors = rt(folder, "check")
+    if status == 0 and lines[-1].startswith("logic=proved"):
+        return "", ""
+    place, name = complaint(lines + errors), os.path.basename(folder)
+    if not any(line.startswith("logic=not-proved") for line in lines) or re.match(r"(src|specs)/\S+ error: (?!`)", place):
+        return f"no verdict of {name}", place or next((line for line in lines + errors if "error" in line), f"status {status}")[:200]
+    return f"refused by {'a proof' if place.startswith('proofs/') else 'a contract'} of {name}", place
+
+
+def prints(folder):
+    """Builds a program and runs it as the gate does, with its args and stdin, in a copy of its data/."""
+    name = os.path.basename(folder)
+    status, lines, errors = rt(folder, "run")
+    if f"rt: running out/{name}" not in "\n".join(errors):
+        return f"refused by a proof of {name}", complaint(lines + errors)
+
+    def given(file):
+        return open(f"{folder}/{file}", "rb").read() if os.path.exists(f"{folder}/{file}") else b""
+
+    with tempfile.TemporaryDirectory() as room:
+        if os.path.isdir(f"{folder}/data"):
+            shutil.copytree(f"{folder}/data", room, dirs_exist_ok=True)
+        words = [f"{folder}/out/{name}", *given("args").decode().splitlines()]
+        try:
+            done = subprocess.run(words, cwd=room, input=given("stdin"), capture_output=True, timeout=SECONDS)
+        except subprocess.TimeoutExpired:
+            return f"refused by the output of {name}", f"it had not ended after {SECONDS} seconds"
+    if done.returncode != int(given("status") or 0):
+        return f"refused by the status of {name}", f"{done.returncode}: {done.stderr.decode(errors='replace').strip()[-200:]}"
+    if done.stdout != given("stdout"):
+        got, wanted = done.stdout.split(b"\n"), given("stdout").split(b"\n")
+        at = next((i for i, line in enumerate(got) if wanted[i : i + 1] != [line]), len(got) - 1)
+        return f"refused by the output of {name}", f"line {at + 1}: {got[at].decode(errors='replace')[:160]}"
+    return "", ""
 
 
 def verdict(root, deps, bug):
     crate = bug["file"].split("/")[1]
-    status, lines = run(root, "dev", crate)
-    if status:
-        place = complaint(lines)
-        by = "a proof" if re.match(r"crates/\w+/proofs/", place) else "a contract"
-        return f"refused by {by} of {crate}", place
+    said, place = check(f"{root}/crates/{crate}")
+    if said:
+        return said, place
     uppers = above(deps, crate)
     programs = [name for name in [crate, *uppers] if os.path.exists(f"{root}/crates/{name}/src/main.rt")]
     for name in programs:
-        status, lines = run(root, "try", name)
-        if status:
-            return f"refused by the output of {name}", complaint(lines)
+        said, place = prints(f"{root}/crates/{name}")
+        if said:
+            return said, place
     for name in uppers:
-        if name not in programs and crate in deps[name]:
-            tests = name.endswith("_tests")
-            status, lines = run(root, "test" if tests else "dev", name)
+        if name in programs or crate not in deps[name]:
+            continue
+        if name.endswith("_tests"):
+            status, lines, errors = rt(f"{root}/crates/{name}", "test")
             if status:
-                return f"refused by {'the tests' if tests else 'a proof'} of {name}", complaint(lines)
+                failed = [line for line in lines + errors if "FAILED" in line]
+                return f"refused by the tests of {name}", (failed or [complaint(lines + errors)])[0]
+        else:
+            said, place = check(f"{root}/crates/{name}")
+            if said:
+                return said, place
     return "PROVED", ""
 
 
 def main():
-    words = argparse.ArgumentParser()
-    words.add_argument("lists", nargs="*")
-    words.add_argument("--only", default="")
-    words.add_argument("--copy", default="/tmp/planted")
+    words = argparse.ArgumentParser(description=__doc__, formatter_class=argparse.RawDescriptionHelpFormatter)
+    words.add_argument("lists", nargs="*", metavar="LIST", help="a file of bugs; without one every list in tools/planted/")
+    words.add_argument("--only", default="", metavar="TEXT", help="only bugs that have this in their name or their file")
+    words.add_argument("--copy", default="/tmp/planted", metavar="FOLDER", help="where the copy is, or is made")
     given = words.parse_args()
     here = os.path.dirname(os.path.dirname(os.path.abspath(__file__)))
     if not os.path.exists(given.copy):
@@ -117,8 +164,9 @@ def main():
             finally:
                 with open(target, "w", encoding="utf-8") as file:
                     file.write(text)
-            caught += said != "PROVED"
-            missed += said == "PROVED"
+            is_caught = said.startswith("refused")
+            caught += is_caught
+            missed += not is_caught
             print(f"{bug['bug']} | {bug['file']} | {said} | {place}", flush=True)
     print(f"{caught} refused, {missed} not")
     return 1 if missed else 0
