@@ -54,10 +54,18 @@ suits rs place r = in_range r && same_account (slice_get rs place) r
 abbrev pub replaced : Bool → List Record → ℕ → Record → List Record
 replaced accepted rs place r = cond accepted (slice_set rs place r) rs
 
+-- what a book shows: its records in order of adding, how many it has room for, numbers kept beside the records, and the ghost
+-- names of the memory that is lent to it
+pub record Contents : Type 0 where
+  pub records : List Record
+  pub room : ℕ
+  pub side : List ℕ
+  pub loans : List ℕ
+
 -- what a call leaves: a proper book still, with this list, and the room, the side list and the memory lent to it as before
-pub record Left (sound : Type 0) (now then : List Record) (room room₀ : ℕ) (side side₀ loans loans₀ : List ℕ) : Type 0 where
+pub record Left (sound : Type 0) (now before : Contents) (then : List Record) : Type 0 where
   pub stays : sound
-  pub list : now ≡ then
-  pub same_room : room ≡ room₀
-  pub same_side : side ≡ side₀
-  pub same_loans : loans ≡ loans₀
+  pub list : now.records ≡ then
+  pub same_room : now.room ≡ before.room
+  pub same_side : now.side ≡ before.side
+  pub same_loans : now.loans ≡ before.loans

@@ -1,2 +1,3 @@
 pub mod Ranges
+pub mod Marks
 pub mod Books

@@ -1,5 +1,7 @@
-// Account records and allocation lines, and the interface of an account book.
+// Account records and allocation lines, the marks by which they are written, and the interface of an account book.
 #![tactic(auto)]
 
 pub mod book;
+pub mod marks;
+pub mod project;
 pub mod record;

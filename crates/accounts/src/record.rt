@@ -3,27 +3,30 @@ ghost use Rattle.std.specs.Prelude.{◌≡◌};
 ghost use Rattle.accounts.specs.Ranges.{account_in_range, savings_in_range, class_in_range, in_range, line_in_range};
 
 // The size of a satellite: `S`, or `L` for a demand of 25 kW or more.
-#[derive(Clone, Copy, PartialEq, Eq, Debug)]
+#[derive(Clone, Copy, PartialEq, Eq, Debug, Default)]
 pub enum Size {
+    #[default]
     Small,
     Large,
 }
 
 // A member subscribes and pays a fee out of its credit; an excluded anchor keeps its whole credit.
-#[derive(Clone, Copy, PartialEq, Eq, Debug)]
+#[derive(Clone, Copy, PartialEq, Eq, Debug, Default)]
 pub enum Kind {
+    #[default]
     Member,
     Anchor,
 }
 
-#[derive(Clone, Copy, PartialEq, Eq, Debug)]
+#[derive(Clone, Copy, PartialEq, Eq, Debug, Default)]
 pub enum State {
+    #[default]
     Open,
     Closed,
 }
 
 // A satellite account as a book keeps it. Its numbers may be out of range in a value.
-#[derive(Clone, Copy, PartialEq, Eq, Debug)]
+#[derive(Clone, Copy, PartialEq, Eq, Debug, Default)]
 pub struct Record {
     pub account: u64,
     // thousandths of a percent
@@ -41,7 +44,7 @@ pub struct Record {
 }
 
 // A line of an allocation request: what a host asks for one account.
-#[derive(Clone, Copy, PartialEq, Eq, Debug)]
+#[derive(Clone, Copy, PartialEq, Eq, Debug, Default)]
 pub struct Line {
     pub account: u64,
     pub percentage: u32,

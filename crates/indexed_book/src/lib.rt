@@ -75,7 +75,7 @@ impl<'a, 'h, B: AccountBook> IndexedBook<'a, 'h, B> {
 
     // Whether an account stands at a place.
     fn stands_at(&self, account: u64, place: usize) -> bool
-        ensures { B.AccountBook.sound (book_of self.now) → result ≡ is_at (find account (accounts (B.AccountBook.records (book_of self.now)))) place }
+        ensures { B.AccountBook.sound (book_of self.now) → result ≡ is_at (find account (accounts (B.AccountBook.contents (book_of self.now)).records)) place }
     {
         match self.get(place) {
             Some(record) => record.account == account,
@@ -85,7 +85,7 @@ impl<'a, 'h, B: AccountBook> IndexedBook<'a, 'h, B> {
 
     // The place of an account by the hints; nothing where they do not tell it.
     fn hinted(&self, account: u64) -> Option<usize>
-        ensures { B.AccountBook.sound (book_of self.now) → or_else result (find account (accounts (B.AccountBook.records (book_of self.now)))) ≡ find account (accounts (B.AccountBook.records (book_of self.now))) }
+        ensures { B.AccountBook.sound (book_of self.now) → or_else result (find account (accounts (B.AccountBook.contents (book_of self.now)).records)) ≡ find account (accounts (B.AccountBook.contents (book_of self.now)).records) }
     {
         for looks in 0..MOST_LOOKS {
             let place = self.hint(account, looks)?;
@@ -146,8 +146,8 @@ impl<'a, 'h, B: AccountBook> AccountBook for IndexedBook<'a, 'h, B> {
 // Adds a record to a book through its hints, and lets the hints go: the book answers and is left as if it had been asked
 // itself.
 pub fn add_indexed<B: AccountBook>(book: &mut B, hints: &mut [usize], new: Record) -> bool
-    ensures answer { B.AccountBook.sound book.old → result ≡ takes (B.AccountBook.records book.old) (B.AccountBook.room book.old) new }
-    ensures after { B.AccountBook.sound book.old → Left (B.AccountBook.sound book.new) (B.AccountBook.records book.new) (added result (B.AccountBook.records book.old) new) (B.AccountBook.room book.new) (B.AccountBook.room book.old) (B.AccountBook.side book.new) (B.AccountBook.side book.old) (B.AccountBook.loans book.new) (B.AccountBook.loans book.old) }
+    ensures answer { B.AccountBook.sound book.old → result ≡ takes (B.AccountBook.contents book.old).records (B.AccountBook.contents book.old).room new }
+    ensures after { B.AccountBook.sound book.old → Left (B.AccountBook.sound book.new) (B.AccountBook.contents book.new) (B.AccountBook.contents book.old) (added result (B.AccountBook.contents book.old).records new) }
 {
     let mut indexed = IndexedBook::new(book, hints);
     indexed.add(new)

@@ -22,9 +22,9 @@ fn perform_all<M: CreditMethod, B: AccountBook>(
     requires empty { said.old.items ≡ [] }
     requires uncounted { vec_len said.old ≡ 0 }
     requires reserved { length calls.now ≤ vec_capacity said.old }
-    ensures kept { B.sound book.old → Kept (B.sound book.new) (B.room book.new) (B.room book.old) (B.side book.new) (B.side book.old) (B.loans book.new) (B.loans book.old) }
-    ensures state { B.sound book.old → view ledger.new (B.room book.new) (B.records book.new) ≡ after M.worth (view ledger.old (B.room book.old) (B.records book.old)) calls.now }
-    ensures answered { B.sound book.old → said.new.items ≡ answers M.worth (view ledger.old (B.room book.old) (B.records book.old)) calls.now }
+    ensures kept { B.sound book.old → Kept (B.sound book.new) (B.contents book.new) (B.contents book.old) }
+    ensures state { B.sound book.old → view ledger.new (B.contents book.new).room (B.contents book.new).records ≡ after M.worth (view ledger.old (B.contents book.old).room (B.contents book.old).records) calls.now }
+    ensures answered { B.sound book.old → said.new.items ≡ answers M.worth (view ledger.old (B.contents book.old).room (B.contents book.old).records) calls.now }
 {
     for call in calls {
         let answer = ledger.perform(book, call);
@@ -41,8 +41,8 @@ pub fn run<M: CreditMethod, B: AccountBook>(
     calls: &[Call<M>],
     heap: Global,
 ) -> Result<Vec<Result<Done, Refusal>>, RunRefusal>
-    ensures kept { B.sound book.old → Kept (B.sound book.new) (B.room book.new) (B.room book.old) (B.side book.new) (B.side book.old) (B.loans book.new) (B.loans book.old) }
-    ensures ran { B.sound book.old → RunOutcome M.worth (judge_open smallest (length (B.records book.old))) (view ledger.old (B.room book.old) (B.records book.old)) (opened smallest farm (B.room book.old) (B.records book.old)) calls.now result (view ledger.new (B.room book.new) (B.records book.new)) }
+    ensures kept { B.sound book.old → Kept (B.sound book.new) (B.contents book.new) (B.contents book.old) }
+    ensures ran { B.sound book.old → RunOutcome M.worth (judge_open smallest (length (B.contents book.old).records)) (view ledger.old (B.contents book.old).room (B.contents book.old).records) (opened smallest farm (B.contents book.old).room (B.contents book.old).records) calls.now result (view ledger.new (B.contents book.new).room (B.contents book.new).records) }
 {
     let Ok(mut said) = Vec::with_capacity(heap, calls.len()) else {
         return Err(RunRefusal::NoMemory);

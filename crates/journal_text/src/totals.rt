@@ -17,7 +17,7 @@ pub fn unit_totals<M, B: AccountBook>(
     calls: &[Call<M>],
     answers: &[Result<Done, Refusal>],
 ) -> UnitTotals
-    ensures { B.sound book.now → result ≡ units_of ledger.now.bank (total (λ x. x.held) (B.records book.now)) calls.now answers.now }
+    ensures { B.sound book.now → result ≡ units_of ledger.now.bank (total (λ x. x.held) (B.contents book.now).records) calls.now answers.now }
 {
     UnitTotals {
         read: sum(Amount::Read, calls, answers),

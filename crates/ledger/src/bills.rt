@@ -71,7 +71,7 @@ pub(crate) fn judge_bill<M: CreditMethod, B: AccountBook>(
     cents: u64,
 ) -> Result<Accepted, Refusal>
     requires { applied ≤ 10000000000000 }
-    ensures judged { B.sound book.now → Judged (M.worth method.now) period applied account cents (B.records book.now) result }
+    ensures judged { B.sound book.now → Judged (M.worth method.now) period applied account cents (B.contents book.now).records result }
     ensures limited { IfOk result (λ x. Limited applied x) }
 {
     if cents > 1_000_000_000 {

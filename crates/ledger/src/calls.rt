@@ -32,8 +32,8 @@ impl Ledger {
         farm: bool,
         book: &B,
     ) -> Result<(), Refusal>
-        ensures answer { B.sound book.now → result ≡ open_answer (judge_open smallest (length (B.records book.now))) }
-        ensures state { B.sound book.now → view self.new (B.room book.now) (B.records book.now) ≡ open_leaves (judge_open smallest (length (B.records book.now))) (view self.old (B.room book.now) (B.records book.now)) (opened smallest farm (B.room book.now) (B.records book.now)) }
+        ensures answer { B.sound book.now → result ≡ open_answer (judge_open smallest (length (B.contents book.now).records)) }
+        ensures state { B.sound book.now → view self.new (B.contents book.now).room (B.contents book.now).records ≡ open_leaves (judge_open smallest (length (B.contents book.now).records)) (view self.old (B.contents book.now).room (B.contents book.now).records) (opened smallest farm (B.contents book.now).room (B.contents book.now).records) }
     {
         if smallest != 1 && smallest != 10 {
             return Err(Refusal::WrongSmallest);
@@ -58,8 +58,8 @@ impl Ledger {
         book: &mut B,
         call: &Call<M>,
     ) -> Result<Done, Refusal>
-        ensures kept { B.sound book.old → Kept (B.sound book.new) (B.room book.new) (B.room book.old) (B.side book.new) (B.side book.old) (B.loans book.new) (B.loans book.old) }
-        ensures steps { B.sound book.old → outcome self.new (B.room book.new) (B.records book.new) result ≡ step M.worth (view self.old (B.room book.old) (B.records book.old)) call.now }
+        ensures kept { B.sound book.old → Kept (B.sound book.new) (B.contents book.new) (B.contents book.old) }
+        ensures steps { B.sound book.old → outcome self.new (B.contents book.new).room (B.contents book.new).records result ≡ step M.worth (view self.old (B.contents book.old).room (B.contents book.old).records) call.now }
     {
         match (&mut self.phase, call) {
             (Phase::Between, Call::Enrol(lines)) => self.enrol(book, lines.as_slice()),

@@ -16,7 +16,7 @@ use accounts::record::{Line, Record, State};
 
 // Takes each record's percentage away.
 fn clear_percentages<B: AccountBook>(book: &mut B)
-    ensures { B.sound book.old → Left (B.sound book.new) (B.records book.new) (map unallocated (B.records book.old)) (B.room book.new) (B.room book.old) (B.side book.new) (B.side book.old) (B.loans book.new) (B.loans book.old) }
+    ensures { B.sound book.old → Left (B.sound book.new) (B.contents book.new) (B.contents book.old) (map unallocated (B.contents book.old).records) }
 {
     for place in 0..book.count() {
         if let Some(holder) = holder_at(book, place) {
@@ -33,7 +33,7 @@ fn clear_percentages<B: AccountBook>(book: &mut B)
 
 // Gives a line's account its values, or adds the account where the book lacks it.
 fn enter_line<B: AccountBook>(book: &mut B, line: &Line)
-    ensures { B.sound book.old → line_in_range line.now ≡ true → length (B.records book.old) + joins (B.records book.old) line.now ≤ B.room book.old → Left (B.sound book.new) (B.records book.new) (enter (record_of line.now.account (B.records book.old)) (B.records book.old) line.now) (B.room book.new) (B.room book.old) (B.side book.new) (B.side book.old) (B.loans book.new) (B.loans book.old) }
+    ensures { B.sound book.old → line_in_range line.now ≡ true → length (B.contents book.old).records + joins (B.contents book.old).records line.now ≤ (B.contents book.old).room → Left (B.sound book.new) (B.contents book.new) (B.contents book.old) (enter (record_of line.now.account (B.contents book.old).records) (B.contents book.old).records line.now) }
 {
     match book.search(line.account) {
         Some(place) => {
@@ -69,7 +69,7 @@ fn enter_line<B: AccountBook>(book: &mut B, line: &Line)
 
 // Enters lines in their order.
 fn enter_lines<B: AccountBook>(book: &mut B, lines: &[Line])
-    ensures { B.sound book.old → every line_in_range lines.now ≡ true → length (B.records book.old) + new_accounts (B.records book.old) lines.now ≤ B.room book.old → Left (B.sound book.new) (B.records book.new) (enter_all (B.records book.old) lines.now) (B.room book.new) (B.room book.old) (B.side book.new) (B.side book.old) (B.loans book.new) (B.loans book.old) }
+    ensures { B.sound book.old → every line_in_range lines.now ≡ true → length (B.contents book.old).records + new_accounts (B.contents book.old).records lines.now ≤ (B.contents book.old).room → Left (B.sound book.new) (B.contents book.new) (B.contents book.old) (enter_all (B.contents book.old).records lines.now) }
 {
     for line in lines {
         enter_line(book, line);
@@ -79,7 +79,7 @@ fn enter_lines<B: AccountBook>(book: &mut B, lines: &[Line])
 impl Ledger {
     // The number of new accounts of a request, or why it is declined.
     fn judge_lines<B: AccountBook>(&self, book: &B, lines: &[Line]) -> Result<usize, Refusal>
-        ensures { B.sound book.now → result ≡ judge_lines self.now.smallest self.now.farm (B.room book.now) (B.records book.now) lines.now }
+        ensures { B.sound book.now → result ≡ judge_lines self.now.smallest self.now.farm (B.contents book.now).room (B.contents book.now).records lines.now }
     {
         if lines.len() < self.smallest as usize || lines.len() > 1_024 {
             return Err(Refusal::WrongLineCount);
@@ -113,8 +113,8 @@ impl Ledger {
         book: &mut B,
         lines: &[Line],
     ) -> Result<Done, Refusal>
-        ensures kept { B.sound book.old → Kept (B.sound book.new) (B.room book.new) (B.room book.old) (B.side book.new) (B.side book.old) (B.loans book.new) (B.loans book.old) }
-        ensures steps { B.sound book.old → outcome self.new (B.room book.new) (B.records book.new) result ≡ enrol (view self.old (B.room book.old) (B.records book.old)) lines.now }
+        ensures kept { B.sound book.old → Kept (B.sound book.new) (B.contents book.new) (B.contents book.old) }
+        ensures steps { B.sound book.old → outcome self.new (B.contents book.new).room (B.contents book.new).records result ≡ enrol (view self.old (B.contents book.old).room (B.contents book.old).records) lines.now }
     {
         let new = self.judge_lines(book, lines)?;
         clear_percentages(book);

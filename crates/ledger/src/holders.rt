@@ -10,7 +10,7 @@ use accounts::record::Record;
 
 // The record at a place. A record out of range is in no proper book, and is not read.
 pub(crate) fn holder_at<B: AccountBook>(book: &B, place: usize) -> Option<Record>
-    ensures told { B.sound book.now → result ≡ slice_get (B.records book.now) place }
+    ensures told { B.sound book.now → result ≡ slice_get (B.contents book.now).records place }
     ensures ranged { IfSome result (λ x. in_range x ≡ true) }
 {
     let holder = book.get(place)?;
@@ -22,7 +22,7 @@ pub(crate) fn holder_at<B: AccountBook>(book: &B, place: usize) -> Option<Record
 
 // The record of an account that a search found at a place.
 pub(crate) fn located<B: AccountBook>(book: &B, account: u64, place: usize) -> Option<Record>
-    ensures told { B.sound book.now → find account (accounts (B.records book.now)) ≡ Some place → MatchOption result ⊥ (λ x. Located (B.records book.now) account place x) }
+    ensures told { B.sound book.now → find account (accounts (B.contents book.now).records) ≡ Some place → MatchOption result ⊥ (λ x. Located (B.contents book.now).records account place x) }
     ensures ranged { IfSome result (λ x. in_range x ≡ true) }
 {
     holder_at(book, place)

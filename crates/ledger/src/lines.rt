@@ -79,7 +79,7 @@ pub(crate) fn percentages(lines: &[Line]) -> Sums
 
 // The place of the first line of a closed account.
 pub(crate) fn first_closed<B: AccountBook>(book: &B, lines: &[Line]) -> Option<usize>
-    ensures { B.sound book.now → result ≡ first_from 0 (names_closed (B.records book.now)) lines.now }
+    ensures { B.sound book.now → result ≡ first_from 0 (names_closed (B.contents book.now).records) lines.now }
 {
     for (i, line) in lines.iter().enumerate() {
         if is_closed(book, line.account) {
@@ -91,7 +91,7 @@ pub(crate) fn first_closed<B: AccountBook>(book: &B, lines: &[Line]) -> Option<u
 
 // Whether an account is closed.
 fn is_closed<B: AccountBook>(book: &B, account: u64) -> bool
-    ensures { B.sound book.now → result ≡ has_closed (record_of account (B.records book.now)) }
+    ensures { B.sound book.now → result ≡ has_closed (record_of account (B.contents book.now).records) }
 {
     let Some(place) = book.search(account) else {
         return false;
@@ -104,7 +104,7 @@ fn is_closed<B: AccountBook>(book: &B, account: u64) -> bool
 
 // How many lines are of accounts that the book lacks.
 pub(crate) fn new_accounts<B: AccountBook>(book: &B, lines: &[Line]) -> usize
-    ensures value { B.sound book.now → result ≡ new_accounts (B.records book.now) lines.now }
+    ensures value { B.sound book.now → result ≡ new_accounts (B.contents book.now).records lines.now }
     ensures bound { result ≤ length lines.now }
 {
     let mut new = 0;

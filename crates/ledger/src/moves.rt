@@ -17,8 +17,8 @@ impl Ledger {
         account: u64,
         units: u64,
     ) -> Result<Done, Refusal>
-        ensures kept { B.sound book.old → Kept (B.sound book.new) (B.room book.new) (B.room book.old) (B.side book.new) (B.side book.old) (B.loans book.new) (B.loans book.old) }
-        ensures steps { B.sound book.old → outcome self.new (B.room book.new) (B.records book.new) result ≡ disburse (view self.old (B.room book.old) (B.records book.old)) account units }
+        ensures kept { B.sound book.old → Kept (B.sound book.new) (B.contents book.new) (B.contents book.old) }
+        ensures steps { B.sound book.old → outcome self.new (B.contents book.new).room (B.contents book.new).records result ≡ disburse (view self.old (B.contents book.old).room (B.contents book.old).records) account units }
     {
         let Some(place) = book.search(account) else {
             return Err(Refusal::NoOpenAccount);

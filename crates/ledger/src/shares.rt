@@ -26,7 +26,7 @@ fn share(units: u64, percentage: u32) -> u64
 // pass the units that it may hold.
 pub(crate) fn judge_shares<B: AccountBook>(book: &B, units: u64) -> Result<u64, Refusal>
     requires { units ≤ 10000000000 }
-    ensures judged { B.sound book.now → Shared units (B.records book.now) result }
+    ensures judged { B.sound book.now → Shared units (B.contents book.now).records result }
     ensures bound { IfOk result (λ shared. shared ≤ units) }
 {
     let mut percentages: u32 = 0;
@@ -51,7 +51,7 @@ pub(crate) fn judge_shares<B: AccountBook>(book: &B, units: u64) -> Result<u64, 
 // Adds its share to each record.
 pub(crate) fn gain_shares<B: AccountBook>(book: &mut B, units: u64)
     requires { units ≤ 10000000000 }
-    ensures { B.sound book.old → foreign_to_reading units (B.records book.old) ≡ false → Left (B.sound book.new) (B.records book.new) (map (gaining units) (B.records book.old)) (B.room book.new) (B.room book.old) (B.side book.new) (B.side book.old) (B.loans book.new) (B.loans book.old) }
+    ensures { B.sound book.old → foreign_to_reading units (B.contents book.old).records ≡ false → Left (B.sound book.new) (B.contents book.new) (B.contents book.old) (map (gaining units) (B.contents book.old).records) }
 {
     for place in 0..book.count() {
         if let Some(holder) = holder_at(book, place) {
@@ -68,8 +68,8 @@ impl Ledger {
         book: &mut B,
         units: u64,
     ) -> Result<Done, Refusal>
-        ensures kept { B.sound book.old → Kept (B.sound book.new) (B.room book.new) (B.room book.old) (B.side book.new) (B.side book.old) (B.loans book.new) (B.loans book.old) }
-        ensures steps { B.sound book.old → outcome self.new (B.room book.new) (B.records book.new) result ≡ reading (view self.old (B.room book.old) (B.records book.old)) units }
+        ensures kept { B.sound book.old → Kept (B.sound book.new) (B.contents book.new) (B.contents book.old) }
+        ensures steps { B.sound book.old → outcome self.new (B.contents book.new).room (B.contents book.new).records result ≡ reading (view self.old (B.contents book.old).room (B.contents book.old).records) units }
     {
         if self.closed >= 1_200 {
             return Err(Refusal::PeriodsOver);

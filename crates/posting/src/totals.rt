@@ -107,7 +107,7 @@ pub fn sum<M>(amount: Amount, calls: &[Call<M>], answers: &[Result<Done, Refusal
 
 // The units held in the record at a place.
 fn held_at<B: AccountBook>(book: &B, place: usize) -> u64
-    ensures step { B.sound book.now → total (λ x. x.held) (drop place (B.records book.now)) ≡ result + total (λ x. x.held) (drop (place + 1) (B.records book.now)) }
+    ensures step { B.sound book.now → total (λ x. x.held) (drop place (B.contents book.now).records) ≡ result + total (λ x. x.held) (drop (place + 1) (B.contents book.now).records) }
     ensures bound { result ≤ 18446744073709551615 }
 {
     match book.get(place) {
@@ -118,7 +118,7 @@ fn held_at<B: AccountBook>(book: &B, place: usize) -> u64
 
 // The units held in all records.
 pub fn held<B: AccountBook>(book: &B) -> u128
-    ensures { B.sound book.now → result ≡ total (λ x. x.held) (B.records book.now) }
+    ensures { B.sound book.now → result ≡ total (λ x. x.held) (B.contents book.now).records }
 {
     let mut units = 0u128;
     for place in 0..book.count() {

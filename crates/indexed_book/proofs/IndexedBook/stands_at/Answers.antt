@@ -6,10 +6,10 @@ pub returns-in-Some : goal.returns-in-Some
 returns-in-Some g c = λ s.
     let b = g.B.AccountBook in
     let book = c.args.self.now.book.now in
-    standing c.args.account c.args.place (b.records book) (Some c.in-Some.record) (b.proper book s).apart (c.in-Some.ensures s)
+    standing c.args.account c.args.place (b.contents book).records (Some c.in-Some.record) (b.proper book s).apart (c.in-Some.ensures s)
 
 pub returns-in-None : goal.returns-in-None
 returns-in-None g c = λ s.
     let b = g.B.AccountBook in
     let book = c.args.self.now.book.now in
-    standing c.args.account c.args.place (b.records book) None (b.proper book s).apart (c.in-None.ensures s)
+    standing c.args.account c.args.place (b.contents book).records None (b.proper book s).apart (c.in-None.ensures s)

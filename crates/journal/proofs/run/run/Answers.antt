@@ -7,8 +7,8 @@ use Rattle.journal.proofs.run.run.Goals as goal
 pub returns : goal.returns
 returns g c =
     let b = g.B.AccountBook in
-    let rs = b.records c.args.book.now in
-    let room = b.room c.args.book.now in
+    let rs = (b.contents c.args.book.now).records in
+    let room = (b.contents c.args.book.now).room in
     let before = view c.args.ledger.now room rs in
     let start = opened c.args.smallest c.args.farm room rs in
     record {

@@ -10,14 +10,14 @@ use Rattle.ledger.proofs.enrolment.clear_percentages.Goals.{in-Some, in_default}
 pub loop-place-preserved : goal.loop-place-preserved
 loop-place-preserved g c =
     let b = g.B.AccountBook in
-    let rs = b.records c.args.book.now in
+    let rs = (b.contents c.args.book.now).records in
     let i = c.loop-place.place in
     elim c.match-holder_at.branch [
       | in-Some w ↦ λ s.
           let h = c.loop-place.invariant s in
           let r = w.in-Some.holder in
           let e = sym (w.in-Some.ensures.told h.stays) in
-          subst (λ z. Left (b.sound z) (b.records z) (over unallocated rs (i + 1)) (b.room z) (b.room c.args.book.now) (b.side z) (b.side c.args.book.now) (b.loans z) (b.loans c.args.book.now)) (sym w.book-is)
+          subst (λ z. Left (b.sound z) (b.contents z).records (over unallocated rs (i + 1)) (b.contents z).room (b.contents c.args.book.now).room (b.contents z).side (b.contents c.args.book.now).side (b.contents z).loans (b.contents c.args.book.now).loans) (sym w.book-is)
           (replace_more unallocated rs _ _ i r _ _ _ _ _ _ _ _ _ _ h w.replace.ensures.answer w.replace.ensures.after e refl (unallocated_in_range r w.in-Some.ensures.ranged))
       | in_default w ↦ λ s.
           let h = c.loop-place.invariant s in
@@ -29,7 +29,7 @@ returns g c s =
     let h = c.loop-place.invariant s in
     record {
       stays = h.stays;
-      list = h.list ∙ over_all unallocated (g.B.AccountBook.records c.args.book.now) c.loop-place.place (omega (arith, c.count-place-end.ensures s, c.loop-place-test.false));
+      list = h.list ∙ over_all unallocated (g.B.AccountBook.contents c.args.book.now).records c.loop-place.place (omega (arith, c.count-place-end.ensures s, c.loop-place-test.false));
       same_room = h.same_room;
       same_side = h.same_side;
       same_loans = h.same_loans;

@@ -8,11 +8,11 @@ use Rattle.ledger.proofs.enrolment.enter_line.Goals as goal
 pub returns-in-None : goal.returns-in-None
 returns-in-None g c s k fits =
     let b = g.B.AccountBook in
-    let rs = b.records c.args.book.now in
+    let rs = (b.contents c.args.book.now).records in
     let l = c.args.line.now in
     let none = sym (c.search.ensures s) ∙ c.in-None.is in
     let h = c.add.ensures.after s in
-    let taken = c.add.ensures.answer s ∙ takes_joining rs (b.room c.args.book.now) l k fits (absent l.account rs none) in
+    let taken = c.add.ensures.answer s ∙ takes_joining rs (b.contents c.args.book.now).room l k fits (absent l.account rs none) in
     record {
       stays = h.stays;
       list = h.list ∙ cond-true c.add.result _ rs taken ∙ sym (ap (λ o. enter o rs l) (missing l.account 0 rs none));

@@ -9,15 +9,15 @@ use Rattle.ledger.proofs.enrolment.enter_lines.Goals as goal
 pub loop-line-preserved : goal.loop-line-preserved
 loop-line-preserved g c s k fits =
     let b = g.B.AccountBook in
-    let rs = b.records c.loop-line.book in
+    let rs = (b.contents c.loop-line.book).records in
     let ls = c.args.lines.now in
     let i = c.loop-line.line-index in
     let l = get_or ls i zero_line in
     let left = drop (i + 1) ls in
     let taken = c.loop-line-test.true in
     let h = c.loop-line.invariant s k fits in
-    let now-fits : length rs + new_accounts rs (l ∷ left) ≤ b.room c.loop-line.book = omega (arith, h.2, at_drop_more (new_accounts rs) ls i zero_line taken) in
-    let one : length rs + joins rs l ≤ b.room c.loop-line.book = omega arith in
+    let now-fits : length rs + new_accounts rs (l ∷ left) ≤ (b.contents c.loop-line.book).room = omega (arith, h.2, at_drop_more (new_accounts rs) ls i zero_line taken) in
+    let one : length rs + joins rs l ≤ (b.contents c.loop-line.book).room = omega arith in
     let e = c.enter_line.ensures h.0.stays (every_at ls i taken k) one in
     let o = record_of l.account rs in (
       record {
@@ -28,7 +28,7 @@ loop-line-preserved g c s k fits =
         same_loans = e.same_loans ∙ h.0.same_loans;
       },
       ap (λ xs. enter_all xs left) e.list ∙ sym (at_drop_more (enter_all rs) ls i zero_line taken) ∙ h.1,
-      subst (λ xs. length xs + new_accounts xs left ≤ b.room c.enter_line.new.book) (sym e.list) (omega (arith, e.same_room, enter_fits rs l left (b.room c.loop-line.book) o refl now-fits)),
+      subst (λ xs. length xs + new_accounts xs left ≤ (b.contents c.enter_line.new.book).room) (sym e.list) (omega (arith, e.same_room, enter_fits rs l left (b.contents c.loop-line.book).room o refl now-fits)),
     )
 
 pub returns : goal.returns
@@ -37,7 +37,7 @@ returns g c s k fits =
     let h = c.loop-line.invariant s k fits in
     record {
       stays = h.0.stays;
-      list = sym (at_drop_all (enter_all (b.records c.loop-line.book)) c.args.lines.now c.loop-line.line-index c.loop-line-test.false) ∙ h.1;
+      list = sym (at_drop_all (enter_all (b.contents c.loop-line.book).records) c.args.lines.now c.loop-line.line-index c.loop-line-test.false) ∙ h.1;
       same_room = h.0.same_room;
       same_side = h.0.same_side;
       same_loans = h.0.same_loans;

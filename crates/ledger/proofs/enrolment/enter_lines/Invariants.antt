@@ -8,6 +8,6 @@ use Rattle.ledger.proofs.enrolment.enter_lines.Given as goal
 abbrev pub invariant-loop-line : goal.invariant-loop-line
 invariant-loop-line g l =
     let b = g.B.AccountBook in
-    let rs = b.records l.book in
+    let rs = (b.contents l.book).records in
     let left = drop l.line-index l.lines in
-    b.sound l.initial.book → every line_in_range l.lines ≡ true → length (b.records l.initial.book) + new_accounts (b.records l.initial.book) l.lines ≤ b.room l.initial.book → Left (b.sound l.book) rs rs (b.room l.book) (b.room l.initial.book) (b.side l.book) (b.side l.initial.book) (b.loans l.book) (b.loans l.initial.book) × (enter_all rs left ≡ enter_all (b.records l.initial.book) l.lines) × (length rs + new_accounts rs left ≤ b.room l.book)
+    b.sound l.initial.book → every line_in_range l.lines ≡ true → length (b.contents l.initial.book).records + new_accounts (b.contents l.initial.book).records l.lines ≤ (b.contents l.initial.book).room → Left (b.sound l.book) rs rs (b.contents l.book).room (b.contents l.initial.book).room (b.contents l.book).side (b.contents l.initial.book).side (b.contents l.book).loans (b.contents l.initial.book).loans × (enter_all rs left ≡ enter_all (b.contents l.initial.book).records l.lines) × (length rs + new_accounts rs left ≤ (b.contents l.book).room)

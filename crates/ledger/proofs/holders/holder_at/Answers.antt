@@ -8,7 +8,7 @@ returns-then-not-in_range g c =
     record {
       told = λ s.
           let b = g.B.AccountBook in
-          let k = every_nth in_range (b.records c.args.book.now) c.args.place c.in_ok-holder.holder (b.proper c.args.book.now s).ranged (sym (c.in_ok-holder.ensures s)) in
+          let k = every_nth in_range (b.contents c.args.book.now).records c.args.place c.in_ok-holder.holder (b.proper c.args.book.now s).ranged (sym (c.in_ok-holder.ensures s)) in
           let never : true ≡ false = sym k ∙ sym c.if-not-in_range.ensures in
           let z : ◌≡◌ {A = ℕ} 0 1 = cc in
           absurd (omega arith);

@@ -10,7 +10,7 @@ use Rattle.ledger.proofs.shares.gain_shares.Goals.{in-Some, in_default}
 pub loop-place-preserved : goal.loop-place-preserved
 loop-place-preserved g c =
     let b = g.B.AccountBook in
-    let rs = b.records c.args.book.now in
+    let rs = (b.contents c.args.book.now).records in
     let i = c.loop-place.place in
     let u = c.args.units in
     elim c.match-holder_at.branch [
@@ -18,10 +18,10 @@ loop-place-preserved g c =
           let h = c.loop-place.invariant s f in
           let r = w.in-Some.holder in
           let e = sym (w.in-Some.ensures.told h.stays) in
-          let answer = subst (λ x. b.sound c.loop-place.book → w.replace.result ≡ suits (b.records c.loop-place.book) i (holding (r.held + x) r)) w.share.ensures w.replace.ensures.answer in
-          let after = subst (λ x. b.sound c.loop-place.book → Left (b.sound w.replace.new.self) (b.records w.replace.new.self) (replaced w.replace.result (b.records c.loop-place.book) i (holding (r.held + x) r)) (b.room w.replace.new.self) (b.room c.loop-place.book) (b.side w.replace.new.self) (b.side c.loop-place.book) (b.loans w.replace.new.self) (b.loans c.loop-place.book)) w.share.ensures w.replace.ensures.after in
+          let answer = subst (λ x. b.sound c.loop-place.book → w.replace.result ≡ suits (b.contents c.loop-place.book).records i (holding (r.held + x) r)) w.share.ensures w.replace.ensures.answer in
+          let after = subst (λ x. b.sound c.loop-place.book → Left (b.sound w.replace.new.self) (b.contents w.replace.new.self).records (replaced w.replace.result (b.contents c.loop-place.book).records i (holding (r.held + x) r)) (b.contents w.replace.new.self).room (b.contents c.loop-place.book).room (b.contents w.replace.new.self).side (b.contents c.loop-place.book).side (b.contents w.replace.new.self).loans (b.contents c.loop-place.book).loans) w.share.ensures w.replace.ensures.after in
           let k = gains_in_range u rs i r f (sym (nth_over (gaining u) rs i) ∙ sym (ap (λ zs. slice_get zs i) h.list) ∙ e) w.in-Some.ensures.ranged in
-          subst (λ z. Left (b.sound z) (b.records z) (over (gaining u) rs (i + 1)) (b.room z) (b.room c.args.book.now) (b.side z) (b.side c.args.book.now) (b.loans z) (b.loans c.args.book.now)) (sym w.book-is)
+          subst (λ z. Left (b.sound z) (b.contents z).records (over (gaining u) rs (i + 1)) (b.contents z).room (b.contents c.args.book.now).room (b.contents z).side (b.contents c.args.book.now).side (b.contents z).loans (b.contents c.args.book.now).loans) (sym w.book-is)
           (replace_more (gaining u) rs _ _ i r _ _ _ _ _ _ _ _ _ _ h answer after e refl k)
       | in_default w ↦ λ s f.
           let h = c.loop-place.invariant s f in
@@ -33,7 +33,7 @@ returns g c s f =
     let h = c.loop-place.invariant s f in
     record {
       stays = h.stays;
-      list = h.list ∙ over_all (gaining c.args.units) (g.B.AccountBook.records c.args.book.now) c.loop-place.place (omega (arith, c.count-place-end.ensures s, c.loop-place-test.false));
+      list = h.list ∙ over_all (gaining c.args.units) (g.B.AccountBook.contents c.args.book.now).records c.loop-place.place (omega (arith, c.count-place-end.ensures s, c.loop-place-test.false));
       same_room = h.same_room;
       same_side = h.same_side;
       same_loans = h.same_loans;

@@ -5,6 +5,6 @@ use Rattle.ledger.proofs.shares.judge_shares.Given as goal
 -- what is left of each sum; and whatever the book, the shares so far are within their percentages of the reading
 abbrev pub invariant-loop-place : goal.invariant-loop-place
 invariant-loop-place g l =
-    (g.B.AccountBook.sound l.book → LeftToShare l.units l.percentages l.shared (g.B.AccountBook.records l.book) (drop l.place (g.B.AccountBook.records l.book)))
+    (g.B.AccountBook.sound l.book → LeftToShare l.units l.percentages l.shared (g.B.AccountBook.contents l.book).records (drop l.place (g.B.AccountBook.contents l.book).records))
     × (l.percentages ≤ 100000)
     × (l.shared * 100000 ≤ l.units * l.percentages)

@@ -9,5 +9,5 @@ loop-place-preserved g c =
 pub returns : goal.returns
 returns g c =
     λ s.
-    let done = held_end (g.B.AccountBook.records c.args.book.now) c.loop-place.place (omega (arith, c.count-place-end.ensures s, c.loop-place-test.false)) in
+    let done = held_end (g.B.AccountBook.contents c.args.book.now).records c.loop-place.place (omega (arith, c.count-place-end.ensures s, c.loop-place-test.false)) in
     omega (arith, done, c.loop-place.invariant.0 s)

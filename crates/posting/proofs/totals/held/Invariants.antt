@@ -6,5 +6,5 @@ use Rattle.posting.proofs.totals.held.Given as goal
 abbrev pub invariant-loop-place : goal.invariant-loop-place
 invariant-loop-place g l =
     let b = g.B.AccountBook in
-    (b.sound l.book → l.units + total (λ r. r.held) (drop l.place (b.records l.book)) ≡ total (λ r. r.held) (b.records l.book))
+    (b.sound l.book → l.units + total (λ r. r.held) (drop l.place (b.contents l.book).records) ≡ total (λ r. r.held) (b.contents l.book).records)
     × (l.units ≤ l.place * 18446744073709551615)

@@ -9,7 +9,7 @@ pub returns-in_ok-bill-in-InPeriod-Bill : goal.returns-in_ok-bill-in-InPeriod-Bi
 returns-in_ok-bill-in-InPeriod-Bill g c =
     let b = g.B.AccountBook in
     let l = c.args.self.now in
-    let v = view l (b.room c.args.book.now) (b.records c.args.book.now) in
+    let v = view l (b.contents c.args.book.now).room (b.contents c.args.book.now).records in
     let a = c.in-InPeriod-Bill in
     let period : l.closed + 1 ≤ 1200 = omega (arith, l.periods, ap open_periods a.is-0) in
     record {
@@ -25,7 +25,7 @@ pub returns-in_ok-bill-in-InPeriod-FinalBill : goal.returns-in_ok-bill-in-InPeri
 returns-in_ok-bill-in-InPeriod-FinalBill g c =
     let b = g.B.AccountBook in
     let l = c.args.self.now in
-    let v = view l (b.room c.args.book.now) (b.records c.args.book.now) in
+    let v = view l (b.contents c.args.book.now).room (b.contents c.args.book.now).records in
     let a = c.in-InPeriod-FinalBill in
     let period : l.closed + 1 ≤ 1200 = omega (arith, l.periods, ap open_periods a.is-0) in
     let replaces = c.replace-in-InPeriod-FinalBill.ensures in
