@@ -23,8 +23,8 @@ fn perform_all<M: CreditMethod, B: AccountBook>(
     requires uncounted { vec_len said.old ≡ 0 }
     requires reserved { length calls.now ≤ vec_capacity said.old }
     ensures kept { B.sound book.old → Kept (B.sound book.new) (B.contents book.new) (B.contents book.old) }
-    ensures state { B.sound book.old → view ledger.new (B.contents book.new).room (B.contents book.new).records ≡ after M.worth (view ledger.old (B.contents book.old).room (B.contents book.old).records) calls.now }
-    ensures answered { B.sound book.old → said.new.items ≡ answers M.worth (view ledger.old (B.contents book.old).room (B.contents book.old).records) calls.now }
+    ensures state { B.sound book.old → view ledger.new (B.contents book.new) ≡ after M.worth (view ledger.old (B.contents book.old)) calls.now }
+    ensures answered { B.sound book.old → said.new.items ≡ answers M.worth (view ledger.old (B.contents book.old)) calls.now }
 {
     for call in calls {
         let answer = ledger.perform(book, call);
@@ -42,7 +42,7 @@ pub fn run<M: CreditMethod, B: AccountBook>(
     heap: Global,
 ) -> Result<Vec<Result<Done, Refusal>>, RunRefusal>
     ensures kept { B.sound book.old → Kept (B.sound book.new) (B.contents book.new) (B.contents book.old) }
-    ensures ran { B.sound book.old → RunOutcome M.worth (judge_open smallest (length (B.contents book.old).records)) (view ledger.old (B.contents book.old).room (B.contents book.old).records) (opened smallest farm (B.contents book.old).room (B.contents book.old).records) calls.now result (view ledger.new (B.contents book.new).room (B.contents book.new).records) }
+    ensures ran { B.sound book.old → RunOutcome M.worth (judge_open smallest (length (B.contents book.old).records)) (view ledger.old (B.contents book.old)) (opened smallest farm (B.contents book.old).room (B.contents book.old).records) calls.now result (view ledger.new (B.contents book.new)) }
 {
     let Ok(mut said) = Vec::with_capacity(heap, calls.len()) else {
         return Err(RunRefusal::NoMemory);

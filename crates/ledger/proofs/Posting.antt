@@ -3,7 +3,7 @@ use Rattle.std.proofs.Common.{◌≡◌, ℕ, ◌+◌, ◌-◌, ◌≤◌, Bool,
 use Rattle.std.proofs.lemmas.Bool.{cond-true}
 use Rattle.std.proofs.lemmas.Bool.Decides.{nat_tests}
 use Rattle.accounts.specs.declared.record.Record.{Record}
-use Rattle.accounts.specs.Books.{Left, suits, replaced}
+use Rattle.accounts.specs.Books.{Contents, Left, suits, replaced}
 use Rattle.accounts.specs.Ranges.{in_range}
 use Rattle.ledger.specs.declared.bills.Accepted.{Accepted}
 use Rattle.ledger.specs.declared.call.Done.{Done}
@@ -42,8 +42,8 @@ module _ (worth : ℕ → ℕ → ℕ) (s : State) (applied fees account cents :
       }
 
   -- the book replaced the account's record
-  written : {S : Type 0} (new : Record) (rs : List Record) (answer : Bool) (room : ℕ) (side side₀ loans loans₀ : List ℕ) → Bills worth (s.closed + 1) applied account cents s.records x → new.account ≡ x.holder.account → in_range new ≡ true → answer ≡ suits s.records x.place new → Left S rs (replaced answer s.records x.place new) room s.room side side₀ loans loans₀ → rs ≡ put new s.records
-  written new rs answer room side side₀ loans loans₀ b same k says h =
+  written : {S : Type 0} {now before : Contents} (new : Record) (answer : Bool) → Bills worth (s.closed + 1) applied account cents s.records x → new.account ≡ x.holder.account → in_range new ≡ true → answer ≡ suits s.records x.place new → Left S now before (replaced answer s.records x.place new) → now.records ≡ put new s.records
+  written new answer b same k says h =
       let w = b.place in
       let whose = same ∙ w.whose in
       h.list
@@ -51,29 +51,29 @@ module _ (worth : ℕ → ℕ → ℕ) (s : State) (applied fees account cents :
       ∙ w.putting new whose
 
   -- `new` is the record that the book was given
-  module _ {S : Type 0} (new : Record) (rs : List Record) (answer : Bool) (room more : ℕ) (side side₀ loans loans₀ : List ℕ) where
-    pub bill_posted : Bills worth (s.closed + 1) applied account cents s.records x → s.closed + 1 ≤ 1200 → more ≡ counted x.holder.kind x.posting.applied → new ≡ billed (s.closed + 1) x.posting.used x.holder → answer ≡ suits s.records x.place new → Left S rs (replaced answer s.records x.place new) room s.room side side₀ loans loans₀ → leaves more room rs x.posting (Billed x.posting) ≡ bill worth s applied fees account cents
+  module _ {S : Type 0} {now before : Contents} (new : Record) (answer : Bool) (more : ℕ) (same : before.room ≡ s.room) where
+    pub bill_posted : Bills worth (s.closed + 1) applied account cents s.records x → s.closed + 1 ≤ 1200 → more ≡ counted x.holder.kind x.posting.applied → new ≡ billed (s.closed + 1) x.posting.used x.holder → answer ≡ suits s.records x.place new → Left S now before (replaced answer s.records x.place new) → leaves more now.room now.records x.posting (Billed x.posting) ≡ bill worth s applied fees account cents
     bill_posted b h m is says l =
         let k = billed_in_range (s.closed + 1) x.posting.used x.holder h b.place.ranged in
         let p = x.posting in
         let n = counted x.holder.kind p.applied in
-        let list = written new rs answer room side side₀ loans loans₀ b (ap (λ r. r.account) is) (ap in_range is ∙ k) says l ∙ ap (λ r. put r s.records) is in
-        ap (λ i. leaves i room rs p (Billed p)) m
-        ∙ ap (λ i. leaves n i rs p (Billed p)) l.same_room
+        let list = written new answer b (ap (λ r. r.account) is) (ap in_range is ∙ k) says l ∙ ap (λ r. put r s.records) is in
+        ap (λ i. leaves i now.room now.records p (Billed p)) m
+        ∙ ap (λ i. leaves n i now.records p (Billed p)) (l.same_room ∙ same)
         ∙ ap (λ ys. leaves n s.room ys p (Billed p)) list
         ∙ ap (λ q. leaves (counted x.holder.kind q.applied) s.room (put (billed (s.closed + 1) q.used x.holder) s.records) q (Billed q)) b.posted
         ∙ sym (ap (bill_judged worth s applied fees cents) b.judged)
 
-    pub final_posted : Bills worth (s.closed + 1) applied account cents s.records x → s.closed + 1 ≤ 1200 → more ≡ counted x.holder.kind x.posting.applied → new ≡ ended (s.closed + 1) x.holder → answer ≡ suits s.records x.place new → Left S rs (replaced answer s.records x.place new) room s.room side side₀ loans loans₀ → leaves more room rs x.posting (FinallyBilled x.posting (x.holder.held - x.posting.used)) ≡ final_bill worth s applied fees account cents
+    pub final_posted : Bills worth (s.closed + 1) applied account cents s.records x → s.closed + 1 ≤ 1200 → more ≡ counted x.holder.kind x.posting.applied → new ≡ ended (s.closed + 1) x.holder → answer ≡ suits s.records x.place new → Left S now before (replaced answer s.records x.place new) → leaves more now.room now.records x.posting (FinallyBilled x.posting (x.holder.held - x.posting.used)) ≡ final_bill worth s applied fees account cents
     final_posted b h m is says l =
         let k = ended_in_range (s.closed + 1) x.holder h b.place.ranged in
         let p = x.posting in
         let held = x.holder.held in
         let n = counted x.holder.kind p.applied in
         let last = ended (s.closed + 1) x.holder in
-        let list = written new rs answer room side side₀ loans loans₀ b (ap (λ r. r.account) is) (ap in_range is ∙ k) says l ∙ ap (λ r. put r s.records) is in
-        ap (λ i. leaves i room rs p (FinallyBilled p (held - p.used))) m
-        ∙ ap (λ i. leaves n i rs p (FinallyBilled p (held - p.used))) l.same_room
+        let list = written new answer b (ap (λ r. r.account) is) (ap in_range is ∙ k) says l ∙ ap (λ r. put r s.records) is in
+        ap (λ i. leaves i now.room now.records p (FinallyBilled p (held - p.used))) m
+        ∙ ap (λ i. leaves n i now.records p (FinallyBilled p (held - p.used))) (l.same_room ∙ same)
         ∙ ap (λ ys. leaves n s.room ys p (FinallyBilled p (held - p.used))) list
         ∙ ap (λ q. leaves (counted x.holder.kind q.applied) s.room (put last s.records) q (FinallyBilled q (held - q.used))) b.posted
         ∙ sym (ap (final_judged worth s applied fees cents) b.judged)

@@ -1,13 +1,47 @@
 -- A loop that replaces each record of a book by what a function makes of it.
-use Rattle.std.proofs.Common.{◌≡◌, ℕ, zero, suc, ◌+◌, ◌<◌, ◌≤◌, Bool, true, List, [], ◌∷◌, ◌++◌, map, length, get_or, take, drop, set, Some, None, sym, refl, ap, ◌∙◌, subst, append-nil, arith, eq-eqb}
+use Rattle.std.proofs.Common.{◌≡◌, ℕ, zero, suc, ◌+◌, ◌<◌, ◌≤◌, Bool, true, List, [], ◌∷◌, ◌++◌, map, length, get_or, take, drop, set, Some, None, Result, sym, refl, ap, ◌∙◌, subst, append-nil, arith, eq-eqb}
 use Rattle.std.proofs.lemmas.List.Edits.{map_over_more}
 use Rattle.std.proofs.lemmas.List.{take_all, drop_all}
 use Rattle.std.proofs.lemmas.Option.{slice_get-get_or}
 use Rattle.std.proofs.lemmas.Bool.{and_from, cond-true}
 use Rattle.std.specs.List.{slice_get}
 use Rattle.accounts.specs.declared.record.Record.{Record}
-use Rattle.accounts.specs.Books.{Left, suits, replaced, same_account}
+use Rattle.accounts.specs.Books.{Contents, Left, suits, replaced, same_account}
+use Rattle.ledger.specs.declared.call.Done.{Done}
+use Rattle.ledger.specs.declared.call.Refusal.{Refusal}
+use Rattle.ledger.specs.declared.ledger.Ledger.{Ledger}
+use Rattle.ledger.specs.Views.{Kept, outcome}
 use Rattle.accounts.specs.Ranges.{in_range}
+
+-- the same book with another list
+abbrev pub listing : List Record → Contents → Contents
+listing xs b = record { records = xs; room = b.room; side = b.side; loans = b.loans }
+
+-- what is left with a list is left with an equal one
+pub left_as : {S : Type 0} {now before : Contents} {xs ys : List Record} → Left S now before xs → xs ≡ ys → Left S now before ys
+left_as h e =
+    record { stays = h.stays; list = h.list ∙ e; same_room = h.same_room; same_side = h.same_side; same_loans = h.same_loans }
+
+-- and after it what a further call leaves
+pub left_on : {S S' : Type 0} {now' now before : Contents} {xs ys : List Record} → Left S now before xs → Left S' now' now ys → Left S' now' before ys
+left_on h l =
+    record {
+      stays = l.stays;
+      list = l.list;
+      same_room = l.same_room ∙ h.same_room;
+      same_side = l.same_side ∙ h.same_side;
+      same_loans = l.same_loans ∙ h.same_loans;
+    }
+
+-- what is left is kept
+pub keeps : {S : Type 0} {now before : Contents} {xs : List Record} → Left S now before xs → Kept S now before
+keeps h = record { stays = h.stays; same_room = h.same_room; same_side = h.same_side; same_loans = h.same_loans }
+
+-- the outcome with what is left
+pub outcome_left : {S : Type 0} {now before : Contents} {xs : List Record} (l : Ledger) (answer : Result Done Refusal) → Left S now before xs → outcome l now answer ≡ outcome l (listing xs before) answer
+outcome_left {now = now} {before = before} l answer h =
+    ap (λ room. outcome l (record { records = now.records; room = room; side = now.side; loans = now.loans }) answer) h.same_room
+    ∙ ap (λ xs. outcome l (listing xs before) answer) h.list
 
 pub nth_below : {X : Type 0} (xs : List X) (i : ℕ) → i < length xs → None ≡ slice_get xs i → ⊥
 nth_below [] i h e = absurd (omega arith)
@@ -42,17 +76,11 @@ module _ (f : Record → Record) where
   set_over rs ys i r o e =
       map_over_more f rs ys i r (nth_within rs i r (sym (nth_over rs i) ∙ sym (ap (λ zs. slice_get zs i) o) ∙ e)) o (nth_is ys i r e)
 
-  pub replace_more : {S S' : Type 0} (rs ys ys' : List Record) (i : ℕ) (r : Record) (answer : Bool) (room room' room₀ : ℕ) (side side' side₀ loans loans' loans₀ : List ℕ) → Left S ys (over rs i) room room₀ side side₀ loans loans₀ → (S → answer ≡ suits ys i (f r)) → (S → Left S' ys' (replaced answer ys i (f r)) room' room side' side loans' loans) → slice_get ys i ≡ Some r → (f r).account ≡ r.account → in_range (f r) ≡ true → Left S' ys' (over rs (i + 1)) room' room₀ side' side₀ loans' loans₀
-  replace_more rs ys ys' i r answer room room' room₀ side side' side₀ loans loans' loans₀ h says leaves e a k =
+  pub replace_more : {S S' : Type 0} {now now' before : Contents} (rs : List Record) (i : ℕ) (r : Record) (answer : Bool) → Left S now before (over rs i) → (S → answer ≡ suits now.records i (f r)) → (S → Left S' now' now (replaced answer now.records i (f r))) → slice_get now.records i ≡ Some r → (f r).account ≡ r.account → in_range (f r) ≡ true → Left S' now' before (over rs (i + 1))
+  replace_more {now = now} rs i r answer h says leaves e a k =
+      let ys = now.records in
       let yes' = says h.stays ∙ suits_over ys i r a e k in
-      let l = leaves h.stays in
-      record {
-        stays = l.stays;
-        list = l.list ∙ cond-true answer (set ys i (f r)) ys yes' ∙ set_over rs ys i r h.list e;
-        same_room = l.same_room ∙ h.same_room;
-        same_side = l.same_side ∙ h.same_side;
-        same_loans = l.same_loans ∙ h.same_loans;
-      }
+      left_on h (left_as (leaves h.stays) (cond-true answer (set ys i (f r)) ys yes' ∙ set_over rs ys i r h.list e))
 
   pub over_all : (rs : List Record) (i : ℕ) → length rs ≤ i → over rs i ≡ map f rs
   over_all rs i h = ap (λ zs. map f zs ++ drop i rs) (take_all i rs h) ∙ ap (λ zs. map f rs ++ zs) (drop_all i rs h) ∙ append-nil (map f rs)

@@ -6,7 +6,7 @@ use Rattle.std.proofs.lemmas.Bool.Decides.{nat_tests}
 use Rattle.accounts.proofs.Finding.{present_push}
 use Rattle.accounts.specs.declared.record.Line.{Line}
 use Rattle.accounts.specs.declared.record.Record.{Record}
-use Rattle.accounts.specs.Books.{present, distinct, every, Left}
+use Rattle.accounts.specs.Books.{Contents, present, distinct, every, Left}
 use Rattle.accounts.specs.Ranges.{line_in_range}
 use Rattle.ledger.specs.declared.call.Refusal.{Refusal}
 use Rattle.ledger.specs.declared.call.Refusal.TheVariants as why
@@ -15,6 +15,7 @@ use Rattle.ledger.specs.Records.{unallocated}
 use Rattle.ledger.specs.Refusals.{number}
 use Rattle.ledger.specs.Sums.{first_from, total}
 use Rattle.ledger.proofs.Entering.{none_out, unallocated_accounts}
+use Rattle.ledger.proofs.Replacing.{left_as, left_on}
 
 -- accounts of which none is repeated stand on no later line
 unrepeated : (a i : ℕ) (earlier later : List ℕ) → repeated_from i earlier later ≡ None → present a earlier ≡ true → present a later ≡ false
@@ -78,15 +79,8 @@ ready smallest farm room rs ls new few e =
     record { ranged = none_out 0 ls ok.ranged; fits = omega (arith, same, ok.fits, length-map rs unallocated) }
 
 -- percentages are taken away, and then the lines entered
-pub enrols : {S S' : Type 0} (smallest : ℕ) (farm : Bool) (rs rs₁ rs₂ : List Record) (room room₁ room₂ : ℕ) (side side₁ side₂ loans loans₁ loans₂ : List ℕ) (ls : List Line) (new : ℕ) → length rs ≤ room → Ok new ≡ judge_lines smallest farm room rs ls → Left S rs₁ (map unallocated rs) room₁ room side₁ side loans₁ loans → (S → every line_in_range ls ≡ true → length rs₁ + new_accounts rs₁ ls ≤ room₁ → Left S' rs₂ (enter_all rs₁ ls) room₂ room₁ side₂ side₁ loans₂ loans₁) → Left S' rs₂ (enrolled rs ls) room₂ room side₂ side loans₂ loans
-enrols smallest farm rs rs₁ rs₂ room room₁ room₂ side side₁ side₂ loans loans₁ loans₂ ls new few e cleared enters =
-    let fit = ready smallest farm room rs ls new few e in
-    let fits = subst (λ xs. length xs + new_accounts xs ls ≤ room₁) (sym cleared.list) (omega (arith, cleared.same_room, fit.fits)) in
-    let entered = enters cleared.stays fit.ranged fits in
-    record {
-      stays = entered.stays;
-      list = entered.list ∙ ap (λ xs. enter_all xs ls) cleared.list;
-      same_room = entered.same_room ∙ cleared.same_room;
-      same_side = entered.same_side ∙ cleared.same_side;
-      same_loans = entered.same_loans ∙ cleared.same_loans;
-    }
+pub enrols : {S S' : Type 0} {c c₁ c₂ : Contents} (smallest : ℕ) (farm : Bool) (ls : List Line) (new : ℕ) → length c.records ≤ c.room → Ok new ≡ judge_lines smallest farm c.room c.records ls → Left S c₁ c (map unallocated c.records) → (S → every line_in_range ls ≡ true → length c₁.records + new_accounts c₁.records ls ≤ c₁.room → Left S' c₂ c₁ (enter_all c₁.records ls)) → Left S' c₂ c (enrolled c.records ls)
+enrols {c = c} {c₁ = c₁} smallest farm ls new few e cleared enters =
+    let fit = ready smallest farm c.room c.records ls new few e in
+    let fits = subst (λ xs. length xs + new_accounts xs ls ≤ c₁.room) (sym cleared.list) (omega (arith, cleared.same_room, fit.fits)) in
+    left_on cleared (left_as (enters cleared.stays fit.ranged fits) (ap (λ xs. enter_all xs ls) cleared.list))

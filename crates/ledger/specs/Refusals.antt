@@ -1,5 +1,5 @@
--- The number of each refusal, and the place that it tells: 0 where it tells none.
-use Rattle.std.specs.Prelude.{ℕ}
+-- The number of each refusal, the place that it tells, 0 where it tells none, and its reason in words.
+use Rattle.std.specs.Prelude.{ℕ, List, codes}
 use Rattle.ledger.specs.declared.call.Refusal.{Refusal}
 use Rattle.ledger.specs.declared.call.Refusal.TheVariants.{
   WrongSmallest,
@@ -64,3 +64,24 @@ place NoOpenAccount = 0
 place BilledAlready = 0
 place NotInBank = 0
 place ForeignBook = 0
+
+abbrev pub reason : Refusal → List ℕ
+reason WrongSmallest = codes "the smallest number of lines is neither 1 nor 10"
+reason BookHasRecords = codes "the book has records already"
+reason InPeriod = codes "a period is open"
+reason WrongLineCount = codes "the lines are too few, or more than 1024"
+reason (LineOutOfRange p) = codes "a number of the line is out of range"
+reason (AccountRepeated p) = codes "the account stands on an earlier line"
+reason (LineOfClosedAccount p) = codes "the account is closed"
+reason PercentagesPass = codes "the percentages pass 100 percent together"
+reason LargePercentagesPass = codes "the percentages of large satellites pass 40 percent together"
+reason BookTooSmall = codes "the book has no room for the new accounts"
+reason PeriodsOver = codes "all 1200 periods are closed"
+reason ReadingTooLarge = codes "the reading passes 10000000000 units"
+reason ReadingsPass = codes "the readings pass 1000000000000 units together"
+reason BetweenPeriods = codes "no period is open"
+reason BillTooLarge = codes "the bill passes 1000000000 cents"
+reason NoOpenAccount = codes "no open account has this number"
+reason BilledAlready = codes "the account is billed already in this period"
+reason NotInBank = codes "the units are 0, or more than the bank has"
+reason ForeignBook = codes "the book is another ledger's"

@@ -1,8 +1,12 @@
 // The calls of a ledger, what a performed call answers, and why a call is declined.
-ghost use Rattle.std.specs.Prelude.{◌≡◌};
-ghost use Rattle.ledger.specs.Refusals.{number, place as place_of};
+ghost use Rattle.std.specs.Prelude.{Some};
+ghost use Rattle.std.proofs.Common.{rules};
+ghost use Rattle.ledger.specs.Refusals.{number, place as place_of, reason};
 
 use accounts::record::Line;
+use refusals::Numbered;
+use std::error::Error;
+use std::fmt;
 
 #[derive(Drop)]
 pub enum Call<M> {
@@ -72,11 +76,47 @@ pub enum Refusal {
     ForeignBook,
 }
 
-impl Refusal {
-    // The number under which the refusal is known.
-    pub fn number(self) -> u8
-        ensures { result ≡ number self }
-    {
+impl fmt::Display for Refusal {
+    ghost output = { λ why. Some (reason why) };
+
+    fn fmt<W: fmt::Write>(&self, f: &mut fmt::Formatter<W>) -> fmt::Result {
+        f.write_str(match self {
+            Refusal::WrongSmallest => "the smallest number of lines is neither 1 nor 10",
+            Refusal::BookHasRecords => "the book has records already",
+            Refusal::InPeriod => "a period is open",
+            Refusal::WrongLineCount => "the lines are too few, or more than 1024",
+            Refusal::LineOutOfRange { .. } => "a number of the line is out of range",
+            Refusal::AccountRepeated { .. } => "the account stands on an earlier line",
+            Refusal::LineOfClosedAccount { .. } => "the account is closed",
+            Refusal::PercentagesPass => "the percentages pass 100 percent together",
+            Refusal::LargePercentagesPass =>
+                "the percentages of large satellites pass 40 percent together",
+            Refusal::BookTooSmall => "the book has no room for the new accounts",
+            Refusal::PeriodsOver => "all 1200 periods are closed",
+            Refusal::ReadingTooLarge => "the reading passes 10000000000 units",
+            Refusal::ReadingsPass => "the readings pass 1000000000000 units together",
+            Refusal::BetweenPeriods => "no period is open",
+            Refusal::BillTooLarge => "the bill passes 1000000000 cents",
+            Refusal::NoOpenAccount => "no open account has this number",
+            Refusal::BilledAlready => "the account is billed already in this period",
+            Refusal::NotInBank => "the units are 0, or more than the bank has",
+            Refusal::ForeignBook => "the book is another ledger's",
+        })
+    }
+}
+
+impl Error for Refusal {}
+
+impl Numbered for Refusal {
+    ghost number = { number };
+
+    ghost place = { place_of };
+
+    ghost reason = { reason };
+
+    ghost spoken = { λ why. Prim.search rules };
+
+    fn number(&self) -> u8 {
         match self {
             Refusal::WrongSmallest => 9,
             Refusal::BookHasRecords => 10,
@@ -100,14 +140,11 @@ impl Refusal {
         }
     }
 
-    // The place of the first line at fault, and 0 where none is told.
-    pub fn place(self) -> usize
-        ensures { result ≡ place_of self }
-    {
+    fn place(&self) -> usize {
         match self {
-            Refusal::LineOutOfRange { place } => place,
-            Refusal::AccountRepeated { place } => place,
-            Refusal::LineOfClosedAccount { place } => place,
+            Refusal::LineOutOfRange { place }
+            | Refusal::AccountRepeated { place }
+            | Refusal::LineOfClosedAccount { place } => *place,
             _ => 0,
         }
     }

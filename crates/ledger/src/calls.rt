@@ -1,5 +1,6 @@
 // The calls: opening a ledger, and performing a call on it.
 ghost use Rattle.std.specs.Prelude.{◌≡◌, false, [], length};
+ghost use Rattle.accounts.specs.Books.{Contents};
 ghost use Rattle.ledger.specs.Steps.{judge_open, open_answer, open_leaves, opened, step};
 ghost use Rattle.ledger.specs.Views.{Kept, outcome, view};
 
@@ -13,7 +14,7 @@ use crediting::method::CreditMethod;
 impl Ledger {
     // A place for a ledger, as if opened for a project that needs ten lines, without the farm mark.
     pub fn new() -> Ledger
-        ensures { view result 0 [] ≡ opened 10 false 0 [] }
+        ensures { (b : Contents) → view result b ≡ opened 10 false b.room b.records }
     {
         Ledger {
             smallest: 10,
@@ -33,7 +34,7 @@ impl Ledger {
         book: &B,
     ) -> Result<(), Refusal>
         ensures answer { B.sound book.now → result ≡ open_answer (judge_open smallest (length (B.contents book.now).records)) }
-        ensures state { B.sound book.now → view self.new (B.contents book.now).room (B.contents book.now).records ≡ open_leaves (judge_open smallest (length (B.contents book.now).records)) (view self.old (B.contents book.now).room (B.contents book.now).records) (opened smallest farm (B.contents book.now).room (B.contents book.now).records) }
+        ensures state { B.sound book.now → view self.new (B.contents book.now) ≡ open_leaves (judge_open smallest (length (B.contents book.now).records)) (view self.old (B.contents book.now)) (opened smallest farm (B.contents book.now).room (B.contents book.now).records) }
     {
         if smallest != 1 && smallest != 10 {
             return Err(Refusal::WrongSmallest);
@@ -59,7 +60,7 @@ impl Ledger {
         call: &Call<M>,
     ) -> Result<Done, Refusal>
         ensures kept { B.sound book.old → Kept (B.sound book.new) (B.contents book.new) (B.contents book.old) }
-        ensures steps { B.sound book.old → outcome self.new (B.contents book.new).room (B.contents book.new).records result ≡ step M.worth (view self.old (B.contents book.old).room (B.contents book.old).records) call.now }
+        ensures steps { B.sound book.old → outcome self.new (B.contents book.new) result ≡ step M.worth (view self.old (B.contents book.old)) call.now }
     {
         match (&mut self.phase, call) {
             (Phase::Between, Call::Enrol(lines)) => self.enrol(book, lines.as_slice()),

@@ -114,7 +114,7 @@ impl Ledger {
         lines: &[Line],
     ) -> Result<Done, Refusal>
         ensures kept { B.sound book.old → Kept (B.sound book.new) (B.contents book.new) (B.contents book.old) }
-        ensures steps { B.sound book.old → outcome self.new (B.contents book.new).room (B.contents book.new).records result ≡ enrol (view self.old (B.contents book.old).room (B.contents book.old).records) lines.now }
+        ensures steps { B.sound book.old → outcome self.new (B.contents book.new) result ≡ enrol (view self.old (B.contents book.old)) lines.now }
     {
         let new = self.judge_lines(book, lines)?;
         clear_percentages(book);

@@ -18,7 +18,7 @@ impl Ledger {
         units: u64,
     ) -> Result<Done, Refusal>
         ensures kept { B.sound book.old → Kept (B.sound book.new) (B.contents book.new) (B.contents book.old) }
-        ensures steps { B.sound book.old → outcome self.new (B.contents book.new).room (B.contents book.new).records result ≡ disburse (view self.old (B.contents book.old).room (B.contents book.old).records) account units }
+        ensures steps { B.sound book.old → outcome self.new (B.contents book.new) result ≡ disburse (view self.old (B.contents book.old)) account units }
     {
         let Some(place) = book.search(account) else {
             return Err(Refusal::NoOpenAccount);

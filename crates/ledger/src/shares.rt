@@ -69,7 +69,7 @@ impl Ledger {
         units: u64,
     ) -> Result<Done, Refusal>
         ensures kept { B.sound book.old → Kept (B.sound book.new) (B.contents book.new) (B.contents book.old) }
-        ensures steps { B.sound book.old → outcome self.new (B.contents book.new).room (B.contents book.new).records result ≡ reading (view self.old (B.contents book.old).room (B.contents book.old).records) units }
+        ensures steps { B.sound book.old → outcome self.new (B.contents book.new) result ≡ reading (view self.old (B.contents book.old)) units }
     {
         if self.closed >= 1_200 {
             return Err(Refusal::PeriodsOver);

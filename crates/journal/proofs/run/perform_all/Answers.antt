@@ -10,8 +10,8 @@ loop-call-preserved g c =
     let worth = g.M.CreditMethod.worth in
     let calls = c.args.calls.now in
     let i = c.loop-call.call-index in
-    let here = view c.loop-call.ledger (b.contents c.loop-call.book).room (b.contents c.loop-call.book).records in
-    let there = view c.perform-answer.new.self (b.contents c.perform-answer.new.book).room (b.contents c.perform-answer.new.book).records in
+    let here = view c.loop-call.ledger (b.contents c.loop-call.book) in
+    let there = view c.perform-answer.new.self (b.contents c.perform-answer.new.book) in
     let answer = c.perform-answer.result in
     let taken = c.loop-call-test.true in (
       λ s.
@@ -37,7 +37,7 @@ returns g c =
     let worth = g.M.CreditMethod.worth in
     let calls = c.args.calls.now in
     let i = c.loop-call.call-index in
-    let here = view c.loop-call.ledger (b.contents c.loop-call.book).room (b.contents c.loop-call.book).records in
+    let here = view c.loop-call.ledger (b.contents c.loop-call.book) in
     let end = c.loop-call-test.false in
     record {
       kept = λ s. (c.loop-call.invariant.0 s).0;

@@ -8,9 +8,9 @@ abbrev pub invariant-loop-call : goal.invariant-loop-call
 invariant-loop-call g l =
     let b = g.B.AccountBook in
     let worth = g.M.CreditMethod.worth in
-    let start = view l.initial.ledger (b.contents l.initial.book).room (b.contents l.initial.book).records in
-    let here = view l.ledger (b.contents l.book).room (b.contents l.book).records in
+    let start = view l.initial.ledger (b.contents l.initial.book) in
+    let here = view l.ledger (b.contents l.book) in
     let left = drop l.call-index l.calls in
-    (b.sound l.initial.book → Kept (b.sound l.book) (b.contents l.book).room (b.contents l.initial.book).room (b.contents l.book).side (b.contents l.initial.book).side (b.contents l.book).loans (b.contents l.initial.book).loans × (after worth here left ≡ after worth start l.calls) × (vec_items l.said ++ answers worth here left ≡ answers worth start l.calls))
+    (b.sound l.initial.book → Kept (b.sound l.book) (b.contents l.book) (b.contents l.initial.book) × (after worth here left ≡ after worth start l.calls) × (vec_items l.said ++ answers worth here left ≡ answers worth start l.calls))
     × (vec_len l.said ≡ l.call-index)
     × (length l.calls ≤ vec_capacity l.said)

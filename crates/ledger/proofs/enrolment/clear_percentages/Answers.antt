@@ -3,7 +3,7 @@ use Rattle.std.specs.List.{slice_get}
 use Rattle.accounts.specs.Books.{Left}
 use Rattle.ledger.specs.Records.{unallocated}
 use Rattle.ledger.proofs.Entering.{unallocated_in_range}
-use Rattle.ledger.proofs.Replacing.{replace_more, over, nth_over, over_all, nth_below}
+use Rattle.ledger.proofs.Replacing.{left_as, replace_more, over, nth_over, over_all, nth_below}
 use Rattle.ledger.proofs.enrolment.clear_percentages.Goals as goal
 use Rattle.ledger.proofs.enrolment.clear_percentages.Goals.{in-Some, in_default}
 
@@ -17,8 +17,8 @@ loop-place-preserved g c =
           let h = c.loop-place.invariant s in
           let r = w.in-Some.holder in
           let e = sym (w.in-Some.ensures.told h.stays) in
-          subst (λ z. Left (b.sound z) (b.contents z).records (over unallocated rs (i + 1)) (b.contents z).room (b.contents c.args.book.now).room (b.contents z).side (b.contents c.args.book.now).side (b.contents z).loans (b.contents c.args.book.now).loans) (sym w.book-is)
-          (replace_more unallocated rs _ _ i r _ _ _ _ _ _ _ _ _ _ h w.replace.ensures.answer w.replace.ensures.after e refl (unallocated_in_range r w.in-Some.ensures.ranged))
+          subst (λ z. Left (b.sound z) (b.contents z) (b.contents c.args.book.now) (over unallocated rs (i + 1))) (sym w.book-is)
+          (replace_more unallocated rs i r _ h w.replace.ensures.answer w.replace.ensures.after e refl (unallocated_in_range r w.in-Some.ensures.ranged))
       | in_default w ↦ λ s.
           let h = c.loop-place.invariant s in
           absurd (nth_below rs i (omega (arith, c.count-place-end.ensures s, c.loop-place-test.true)) (w.in_default.ensures.told h.stays ∙ ap (λ zs. slice_get zs i) h.list ∙ nth_over unallocated rs i))
@@ -26,11 +26,5 @@ loop-place-preserved g c =
 
 pub returns : goal.returns
 returns g c s =
-    let h = c.loop-place.invariant s in
-    record {
-      stays = h.stays;
-      list = h.list ∙ over_all unallocated (g.B.AccountBook.contents c.args.book.now).records c.loop-place.place (omega (arith, c.count-place-end.ensures s, c.loop-place-test.false));
-      same_room = h.same_room;
-      same_side = h.same_side;
-      same_loans = h.same_loans;
-    }
+    let rs = (g.B.AccountBook.contents c.args.book.now).records in
+    left_as (c.loop-place.invariant s) (over_all unallocated rs c.loop-place.place (omega (arith, c.count-place-end.ensures s, c.loop-place-test.false)))

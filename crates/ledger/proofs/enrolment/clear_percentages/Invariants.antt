@@ -7,4 +7,4 @@ abbrev pub invariant-loop-place : goal.invariant-loop-place
 invariant-loop-place g l =
     let b = g.B.AccountBook in
     let rs = (b.contents l.initial.book).records in
-    b.sound l.initial.book → Left (b.sound l.book) (b.contents l.book).records (over unallocated rs l.place) (b.contents l.book).room (b.contents l.initial.book).room (b.contents l.book).side (b.contents l.initial.book).side (b.contents l.book).loans (b.contents l.initial.book).loans
+    b.sound l.initial.book → Left (b.sound l.book) (b.contents l.book) (b.contents l.initial.book) (over unallocated rs l.place)

@@ -3,6 +3,7 @@ use Rattle.std.proofs.lemmas.Bool.{cond-true}
 use Rattle.ledger.specs.Lines.{enter}
 use Rattle.ledger.proofs.Entering.{absent, takes_joining}
 use Rattle.ledger.proofs.Locating.{missing}
+use Rattle.ledger.proofs.Replacing.{left_as}
 use Rattle.ledger.proofs.enrolment.enter_line.Goals as goal
 
 pub returns-in-None : goal.returns-in-None
@@ -11,12 +12,5 @@ returns-in-None g c s k fits =
     let rs = (b.contents c.args.book.now).records in
     let l = c.args.line.now in
     let none = sym (c.search.ensures s) ∙ c.in-None.is in
-    let h = c.add.ensures.after s in
     let taken = c.add.ensures.answer s ∙ takes_joining rs (b.contents c.args.book.now).room l k fits (absent l.account rs none) in
-    record {
-      stays = h.stays;
-      list = h.list ∙ cond-true c.add.result _ rs taken ∙ sym (ap (λ o. enter o rs l) (missing l.account 0 rs none));
-      same_room = h.same_room;
-      same_side = h.same_side;
-      same_loans = h.same_loans;
-    }
+    left_as (c.add.ensures.after s) (cond-true c.add.result _ rs taken ∙ sym (ap (λ o. enter o rs l) (missing l.account 0 rs none)))

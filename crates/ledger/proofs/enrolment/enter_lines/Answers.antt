@@ -3,6 +3,7 @@ use Rattle.std.proofs.lemmas.List.{at_drop_more, at_drop_all}
 use Rattle.ledger.specs.Lines.{enter_all, joins, new_accounts}
 use Rattle.ledger.specs.Records.{record_of}
 use Rattle.ledger.proofs.Entering.{every_at, enter_fits}
+use Rattle.ledger.proofs.Replacing.{left_as, left_on}
 use Rattle.ledger.proofs.Scanning.{zero_line}
 use Rattle.ledger.proofs.enrolment.enter_lines.Goals as goal
 
@@ -20,13 +21,7 @@ loop-line-preserved g c s k fits =
     let one : length rs + joins rs l ≤ (b.contents c.loop-line.book).room = omega arith in
     let e = c.enter_line.ensures h.0.stays (every_at ls i taken k) one in
     let o = record_of l.account rs in (
-      record {
-        stays = e.stays;
-        list = refl;
-        same_room = e.same_room ∙ h.0.same_room;
-        same_side = e.same_side ∙ h.0.same_side;
-        same_loans = e.same_loans ∙ h.0.same_loans;
-      },
+      left_as (left_on h.0 e) (sym e.list),
       ap (λ xs. enter_all xs left) e.list ∙ sym (at_drop_more (enter_all rs) ls i zero_line taken) ∙ h.1,
       subst (λ xs. length xs + new_accounts xs left ≤ (b.contents c.enter_line.new.book).room) (sym e.list) (omega (arith, e.same_room, enter_fits rs l left (b.contents c.loop-line.book).room o refl now-fits)),
     )
@@ -35,10 +30,4 @@ pub returns : goal.returns
 returns g c s k fits =
     let b = g.B.AccountBook in
     let h = c.loop-line.invariant s k fits in
-    record {
-      stays = h.0.stays;
-      list = sym (at_drop_all (enter_all (b.contents c.loop-line.book).records) c.args.lines.now c.loop-line.line-index c.loop-line-test.false) ∙ h.1;
-      same_room = h.0.same_room;
-      same_side = h.0.same_side;
-      same_loans = h.0.same_loans;
-    }
+    left_as h.0 (sym (at_drop_all (enter_all (b.contents c.loop-line.book).records) c.args.lines.now c.loop-line.line-index c.loop-line-test.false) ∙ h.1)

@@ -10,4 +10,4 @@ invariant-loop-line g l =
     let b = g.B.AccountBook in
     let rs = (b.contents l.book).records in
     let left = drop l.line-index l.lines in
-    b.sound l.initial.book → every line_in_range l.lines ≡ true → length (b.contents l.initial.book).records + new_accounts (b.contents l.initial.book).records l.lines ≤ (b.contents l.initial.book).room → Left (b.sound l.book) rs rs (b.contents l.book).room (b.contents l.initial.book).room (b.contents l.book).side (b.contents l.initial.book).side (b.contents l.book).loans (b.contents l.initial.book).loans × (enter_all rs left ≡ enter_all (b.contents l.initial.book).records l.lines) × (length rs + new_accounts rs left ≤ (b.contents l.book).room)
+    b.sound l.initial.book → every line_in_range l.lines ≡ true → length (b.contents l.initial.book).records + new_accounts (b.contents l.initial.book).records l.lines ≤ (b.contents l.initial.book).room → Left (b.sound l.book) (b.contents l.book) (b.contents l.initial.book) rs × (enter_all rs left ≡ enter_all (b.contents l.initial.book).records l.lines) × (length rs + new_accounts rs left ≤ (b.contents l.book).room)
