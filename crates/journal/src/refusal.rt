@@ -1,9 +1,42 @@
 // Why a run is declined.
-use ledger::call::Refusal;
+ghost use Rattle.std.specs.Prelude.{◌≡◌};
+ghost use Rattle.journal.specs.declared.refusal.RunRefusal.TheVariants as declined;
 
-#[derive(Clone, Copy)]
+use ledger::call::Refusal;
+use std::alloc::AllocError;
+use std::error::Error;
+use std::fmt;
+
+#[derive(Clone, Copy, PartialEq, Eq, Debug)]
 pub enum RunRefusal {
     NotOpened(Refusal),
     // there is no memory for the answers
     NoMemory,
 }
+
+impl From<Refusal> for RunRefusal {
+    ghost from_gives = { λ why r. r ≡ declined.NotOpened why };
+
+    fn from(why: Refusal) -> RunRefusal {
+        RunRefusal::NotOpened(why)
+    }
+}
+
+impl From<AllocError> for RunRefusal {
+    ghost from_gives = { λ _ r. r ≡ declined.NoMemory };
+
+    fn from(_: AllocError) -> RunRefusal {
+        RunRefusal::NoMemory
+    }
+}
+
+impl fmt::Display for RunRefusal {
+    fn fmt<W: fmt::Write>(&self, f: &mut fmt::Formatter<W>) -> fmt::Result {
+        match self {
+            RunRefusal::NotOpened(why) => write!(f, "{why}"),
+            RunRefusal::NoMemory => f.write_str("there is no memory for the answers"),
+        }
+    }
+}
+
+impl Error for RunRefusal {}

@@ -7,6 +7,7 @@ ghost use Rattle.journal.specs.Outcomes.{RunOutcome};
 
 use super::refusal::RunRefusal;
 use accounts::book::AccountBook;
+use accounts::project::Project;
 use crediting::method::CreditMethod;
 use ledger::call::{Call, Done, Refusal};
 use ledger::ledger::Ledger;
@@ -35,21 +36,16 @@ fn perform_all<M: CreditMethod, B: AccountBook>(
 // Opens a ledger on an empty book and performs any list of calls, performed or declined; answers each call in order.
 pub fn run<M: CreditMethod, B: AccountBook>(
     ledger: &mut Ledger,
-    smallest: u32,
-    farm: bool,
+    project: Project,
     book: &mut B,
     calls: &[Call<M>],
     heap: Global,
 ) -> Result<Vec<Result<Done, Refusal>>, RunRefusal>
     ensures kept { B.sound book.old → Kept (B.sound book.new) (B.contents book.new) (B.contents book.old) }
-    ensures ran { B.sound book.old → RunOutcome M.worth (judge_open smallest (length (B.contents book.old).records)) (view ledger.old (B.contents book.old)) (opened smallest farm (B.contents book.old).room (B.contents book.old).records) calls.now result (view ledger.new (B.contents book.new)) }
+    ensures ran { B.sound book.old → RunOutcome M.worth (judge_open project.smallest (length (B.contents book.old).records)) (view ledger.old (B.contents book.old)) (opened project.smallest project.farm (B.contents book.old).room (B.contents book.old).records) calls.now result (view ledger.new (B.contents book.new)) }
 {
-    let Ok(mut said) = Vec::with_capacity(heap, calls.len()) else {
-        return Err(RunRefusal::NoMemory);
-    };
-    if let Err(why) = ledger.open(smallest, farm, book) {
-        return Err(RunRefusal::NotOpened(why));
-    }
+    let mut said = Vec::with_capacity(heap, calls.len())?;
+    ledger.open(project, book)?;
     perform_all(ledger, book, calls, &mut said);
     Ok(said)
 }

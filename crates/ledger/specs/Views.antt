@@ -9,8 +9,8 @@ use Rattle.ledger.specs.States.{State, Outcome}
 abbrev pub view : Ledger → Contents → State
 view l b =
     record {
-      smallest = l.smallest;
-      farm = l.farm;
+      smallest = l.project.smallest;
+      farm = l.project.farm;
       phase = l.phase;
       closed = l.closed;
       bank = l.bank;

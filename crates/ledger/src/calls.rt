@@ -9,6 +9,7 @@ use super::call::{Call, Done, Refusal, Settlement};
 use super::ledger::Ledger;
 use super::phase::Phase;
 use accounts::book::AccountBook;
+use accounts::project::Project;
 use crediting::method::CreditMethod;
 
 impl Ledger {
@@ -17,8 +18,10 @@ impl Ledger {
         ensures { (b : Contents) → view result b ≡ opened 10 false b.room b.records }
     {
         Ledger {
-            smallest: 10,
-            farm: false,
+            project: Project {
+                smallest: 10,
+                farm: false,
+            },
             phase: Phase::Between,
             closed: 0,
             bank: 0,
@@ -27,24 +30,18 @@ impl Ledger {
     }
 
     // Opens a ledger in its place, on a book with no records.
-    pub fn open<B: AccountBook>(
-        &mut self,
-        smallest: u32,
-        farm: bool,
-        book: &B,
-    ) -> Result<(), Refusal>
-        ensures answer { B.sound book.now → result ≡ open_answer (judge_open smallest (length (B.contents book.now).records)) }
-        ensures state { B.sound book.now → view self.new (B.contents book.now) ≡ open_leaves (judge_open smallest (length (B.contents book.now).records)) (view self.old (B.contents book.now)) (opened smallest farm (B.contents book.now).room (B.contents book.now).records) }
+    pub fn open<B: AccountBook>(&mut self, project: Project, book: &B) -> Result<(), Refusal>
+        ensures answer { B.sound book.now → result ≡ open_answer (judge_open project.smallest (length (B.contents book.now).records)) }
+        ensures state { B.sound book.now → view self.new (B.contents book.now) ≡ open_leaves (judge_open project.smallest (length (B.contents book.now).records)) (view self.old (B.contents book.now)) (opened project.smallest project.farm (B.contents book.now).room (B.contents book.now).records) }
     {
-        if smallest != 1 && smallest != 10 {
+        if project.smallest != 1 && project.smallest != 10 {
             return Err(Refusal::WrongSmallest);
         }
         if book.count() != 0 {
             return Err(Refusal::BookHasRecords);
         }
         *self = Ledger {
-            smallest,
-            farm,
+            project,
             phase: Phase::Between,
             closed: 0,
             bank: 0,

@@ -79,9 +79,9 @@ fn enter_lines<B: AccountBook>(book: &mut B, lines: &[Line])
 impl Ledger {
     // The number of new accounts of a request, or why it is declined.
     fn judge_lines<B: AccountBook>(&self, book: &B, lines: &[Line]) -> Result<usize, Refusal>
-        ensures { B.sound book.now → result ≡ judge_lines self.now.smallest self.now.farm (B.contents book.now).room (B.contents book.now).records lines.now }
+        ensures { B.sound book.now → result ≡ judge_lines self.now.project.smallest self.now.project.farm (B.contents book.now).room (B.contents book.now).records lines.now }
     {
-        if lines.len() < self.smallest as usize || lines.len() > 1_024 {
+        if lines.len() < self.project.smallest as usize || lines.len() > 1_024 {
             return Err(Refusal::WrongLineCount);
         }
         if let Some(place) = first_out_of_range(lines) {
@@ -97,7 +97,7 @@ impl Ledger {
         if sums.all > 100_000 {
             return Err(Refusal::PercentagesPass);
         }
-        if !self.farm && sums.large > 40_000 {
+        if !self.project.farm && sums.large > 40_000 {
             return Err(Refusal::LargePercentagesPass);
         }
         let new = new_accounts(book, lines);

@@ -3,13 +3,11 @@ ghost use Rattle.std.specs.Prelude.{◌+◌, ◌*◌, ◌≤◌};
 ghost use Rattle.ledger.specs.Phases.{applied_in, fees_in, open_periods};
 
 use super::phase::Phase;
+use accounts::project::Project;
 
 #[derive(Clone, Copy)]
 pub struct Ledger {
-    // the smallest number of lines that a request may have
-    pub(crate) smallest: u32,
-    // the farm mark: accounts of large size may have more than 40 percent together
-    pub(crate) farm: bool,
+    pub(crate) project: Project,
     pub(crate) phase: Phase,
     // closed periods
     pub(crate) closed: u32,

@@ -12,7 +12,7 @@ returns g c =
     let l = c.args.self.now in
     let ls = c.args.lines.now in
     let judged = c.in_ok-new.ensures in
-    let left = λ (s : b.sound c.args.book.now). enrols l.smallest l.farm ls c.in_ok-new.new (b.proper c.args.book.now s).fits (judged s) (c.clear_percentages.ensures s) c.enter_lines.ensures in
+    let left = λ (s : b.sound c.args.book.now). enrols l.project.smallest l.project.farm ls c.in_ok-new.new (b.proper c.args.book.now s).fits (judged s) (c.clear_percentages.ensures s) c.enter_lines.ensures in
     record {
       kept = λ s. keeps (left s);
       steps = λ s.
