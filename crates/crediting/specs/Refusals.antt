@@ -1,6 +1,5 @@
 -- Why a list of rates is refused.
-use Rattle.std.specs.Prelude.{◌≡◌, ℕ, ◌<◌, true, false, cond, List, length, Ok, Err, MatchBool, Result, ◌==◌, slice_index}
-use Rattle.std.specs.List.{prefix_len}
+use Rattle.std.specs.Prelude.{◌≡◌, ℕ, ◌<◌, true, false, cond, not, List, length, position, Some, None, Option, Ok, Err, MatchBool, codes, Result, ◌==◌, slice_index}
 use Rattle.crediting.specs.declared.rates.RatesRefusal.{RatesRefusal}
 use Rattle.crediting.specs.declared.rates.RatesRefusal.TheVariants.{WrongCount, OutOfRange}
 use Rattle.crediting.specs.Worths.{Fair, fair}
@@ -15,10 +14,18 @@ abbrev pub place : RatesRefusal → ℕ
 place WrongCount = 0
 place (OutOfRange p) = p
 
--- Rates are refused where there are not sixteen, or else for the first out of range, behind the
--- leading ones that are in range.
+-- Why, in words.
+abbrev pub reason : RatesRefusal → List ℕ
+reason WrongCount = codes "there are not sixteen rates"
+reason (OutOfRange p) = codes "the rate is not 1 to 1000000"
+
+-- Rates are refused where there are not sixteen, or else for the first that is out of range.
+abbrev pub unless_unfair : Option ℕ → Result (Unit {0}) RatesRefusal
+unless_unfair None = Ok tt
+unless_unfair (Some place) = Err (OutOfRange place)
+
 abbrev pub judged : List ℕ → Result (Unit {0}) RatesRefusal
-judged rs = cond (length rs == 16) (cond (prefix_len fair rs == 16) (Ok tt) (Err (OutOfRange (prefix_len fair rs)))) (Err WrongCount)
+judged rs = cond (length rs == 16) (unless_unfair (position (λ r. not (fair r)) rs)) (Err WrongCount)
 
 -- Place p is that of the first rate out of range.
 pub record FirstUnfair (rs : List ℕ) (p : ℕ) : Type 0 where

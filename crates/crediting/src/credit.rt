@@ -1,6 +1,7 @@
 // What a method credits against one bill, and for which classes, units and bills it answers.
-ghost use Rattle.crediting.specs.Ranges.{has_worth, in_ranges};
-ghost use Rattle.std.specs.Prelude.{◌≡◌};
+ghost use Rattle.crediting.specs.Credits.{applied_credit, told_worth};
+ghost use Rattle.crediting.specs.Ranges.{is_class, has_worth, in_ranges};
+ghost use Rattle.std.specs.Prelude.{◌≡◌, ℕ};
 
 // Service classes are numbered from 1 to 16.
 pub const CLASSES: u8 = 16;
@@ -17,11 +18,17 @@ pub struct Credit {
     pub used: u64,
 }
 
+pub(crate) fn is_class(class: u8) -> bool
+    ensures { result ≡ is_class class }
+{
+    1 <= class && class <= CLASSES
+}
+
 // Whether a method tells the worth of so many units of a class.
 pub fn has_worth(class: u8, units: u64) -> bool
     ensures { result ≡ has_worth class units }
 {
-    1 <= class && class <= CLASSES && units <= MOST_UNITS
+    is_class(class) && units <= MOST_UNITS
 }
 
 // Whether a method credits such a bill.
@@ -29,4 +36,15 @@ pub fn in_ranges(class: u8, units: u64, bill: u64) -> bool
     ensures { result ≡ in_ranges class units bill }
 {
     has_worth(class, units) && bill <= MOST_BILL
+}
+
+// The applied credit of either method: the lesser of the bill and the worth that the method tells; 0 outside the ranges.
+pub(crate) fn applied_credit(class: u8, units: u64, bill: u64, worth: u64) -> u64
+    ensures { (W : ℕ → ℕ → ℕ) → worth ≡ told_worth W class units → result ≡ applied_credit W class units bill }
+{
+    if in_ranges(class, units, bill) {
+        bill.min(worth)
+    } else {
+        0
+    }
 }

@@ -9,14 +9,10 @@ pub trait CreditMethod {
     // The byte that stands for the method's unit: `C` for cents, `K` for kilowatt-hours.
     const MARK: u8;
 
-    ghost letter: { ℕ };
+    ghost MARK: { ℕ };
 
     // The worth in cents of a class's units.
     ghost worth: { Self → ℕ → ℕ → ℕ };
-
-    // The mark, by a call whose result clauses can speak of.
-    fn letter() -> u8
-        ensures { result ≡ letter };
 
     // The worth of units of a class in cents; 0 outside the ranges.
     fn worth(&self, class: u8, units: u64) -> u64

@@ -1,7 +1,12 @@
 // Sixteen rates, one for each service class, and why a list of rates is refused.
-ghost use Rattle.crediting.specs.Refusals.{Told, judged, number, place as place_of};
+ghost use Rattle.crediting.specs.Refusals.{Told, judged, number, place as place_of, reason};
 ghost use Rattle.crediting.specs.Worths.{fair};
-ghost use Rattle.std.specs.Prelude.{◌≡◌};
+ghost use Rattle.std.specs.Prelude.{◌≡◌, not, position, Some};
+ghost use Rattle.std.proofs.Common.{rules};
+
+use refusals::Numbered;
+use std::error::Error;
+use std::fmt;
 
 // in ten-thousandths of a cent for a kilowatt-hour
 pub const MOST_RATE: u32 = 1_000_000;
@@ -14,20 +19,36 @@ pub enum RatesRefusal {
     OutOfRange { place: usize },
 }
 
-impl RatesRefusal {
-    pub fn number(&self) -> u8
-        ensures { result ≡ number self.now }
-    {
+impl fmt::Display for RatesRefusal {
+    ghost output = { λ why. Some (reason why) };
+
+    fn fmt<W: fmt::Write>(&self, f: &mut fmt::Formatter<W>) -> fmt::Result {
+        f.write_str(match self {
+            RatesRefusal::WrongCount => "there are not sixteen rates",
+            RatesRefusal::OutOfRange { .. } => "the rate is not 1 to 1000000",
+        })
+    }
+}
+
+impl Error for RatesRefusal {}
+
+impl Numbered for RatesRefusal {
+    ghost number = { number };
+
+    ghost place = { place_of };
+
+    ghost reason = { reason };
+
+    ghost spoken = { λ why. Prim.search rules };
+
+    fn number(&self) -> u8 {
         match self {
             RatesRefusal::WrongCount => 8,
             RatesRefusal::OutOfRange { .. } => 8,
         }
     }
 
-    // counted from 0; 0 where no place is told
-    pub fn place(&self) -> usize
-        ensures { result ≡ place_of self.now }
-    {
+    fn place(&self) -> usize {
         match self {
             RatesRefusal::WrongCount => 0,
             RatesRefusal::OutOfRange { place } => *place,
@@ -41,6 +62,13 @@ fn is_fair(rate: u32) -> bool
     1 <= rate && rate <= MOST_RATE
 }
 
+// The place of the first rate that is out of range.
+fn first_unfair(rates: &[u32]) -> Option<usize>
+    ensures { result ≡ position (λ r. not (fair r)) rates.now }
+{
+    rates.iter().position(|rate| !is_fair(*rate))
+}
+
 // Whether these can be the rates of a method, or why not.
 pub fn judge(rates: &[u32]) -> Result<(), RatesRefusal>
     ensures answer { result ≡ judged rates.now }
@@ -49,10 +77,8 @@ pub fn judge(rates: &[u32]) -> Result<(), RatesRefusal>
     if rates.len() != 16 {
         return Err(RatesRefusal::WrongCount);
     }
-    for (place, rate) in rates.iter().enumerate() {
-        if !is_fair(*rate) {
-            return Err(RatesRefusal::OutOfRange { place });
-        }
+    match first_unfair(rates) {
+        Some(place) => Err(RatesRefusal::OutOfRange { place }),
+        None => Ok(()),
     }
-    Ok(())
 }

@@ -5,7 +5,7 @@ ghost use Rattle.crediting.specs.Ranges.{in_ranges};
 ghost use Rattle.crediting.specs.Worths.{cents, cents_mark};
 ghost use Rattle.std.specs.Prelude.{◌≡◌, true};
 
-use super::credit::{Credit, has_worth, in_ranges};
+use super::credit::{Credit, applied_credit, has_worth};
 use super::method::CreditMethod;
 
 #[derive(Clone, Copy, PartialEq, Eq, Debug)]
@@ -14,34 +14,20 @@ pub struct ValueStack;
 impl CreditMethod for ValueStack {
     const MARK: u8 = b'C';
 
-    ghost letter = { cents_mark };
+    ghost MARK = { cents_mark };
 
     ghost worth = { λ _. cents };
 
     ghost lawful = { λ s k is. cents_lawful k };
-
-    fn letter() -> u8 {
-        Self::MARK
-    }
 
     fn worth(&self, class: u8, units: u64) -> u64 {
         if has_worth(class, units) { units } else { 0 }
     }
 
     fn credit(&self, class: u8, units: u64, bill: u64) -> Credit {
-        let applied = applied(class, units, bill);
+        let applied = applied_credit(class, units, bill, self.worth(class, units));
         let used = used(class, units, bill, applied);
         Credit { applied, used }
-    }
-}
-
-fn applied(class: u8, units: u64, bill: u64) -> u64
-    ensures { result ≡ applied_credit cents class units bill }
-{
-    if in_ranges(class, units, bill) {
-        bill.min(units)
-    } else {
-        0
     }
 }
 

@@ -6,7 +6,7 @@ ghost use Rattle.crediting.specs.Refusals.{Told, judged};
 ghost use Rattle.crediting.specs.Worths.{Fair, by_rates, kilowatt_hours_mark, rate_of};
 ghost use Rattle.crediting.specs.Ceilings.{class_rate, rate_lawful};
 
-use super::credit::{CLASSES, Credit, has_worth, in_ranges};
+use super::credit::{Credit, applied_credit, has_worth, in_ranges, is_class};
 use super::method::CreditMethod;
 use super::rates::{RatesRefusal, judge};
 
@@ -40,7 +40,7 @@ impl Volumetric {
     pub fn rate(&self, class: u8) -> Option<u32>
         ensures { result ≡ (if is_class class then Some (rate_of self.now.rates class) else None) }
     {
-        if 1 <= class && class <= CLASSES {
+        if is_class(class) {
             Some(self.rates[class as usize - 1])
         } else {
             None
@@ -51,15 +51,11 @@ impl Volumetric {
 impl CreditMethod for Volumetric {
     const MARK: u8 = b'K';
 
-    ghost letter = { kilowatt_hours_mark };
+    ghost MARK = { kilowatt_hours_mark };
 
     ghost worth = { λ s. by_rates s.rates };
 
     ghost lawful = { λ s k is. rate_lawful _ (class_rate s.rates k s.fair is).1 };
-
-    fn letter() -> u8 {
-        Self::MARK
-    }
 
     fn worth(&self, class: u8, units: u64) -> u64 {
         if !has_worth(class, units) {
@@ -70,23 +66,13 @@ impl CreditMethod for Volumetric {
     }
 
     fn credit(&self, class: u8, units: u64, bill: u64) -> Credit {
-        let applied = self.applied(class, units, bill);
+        let applied = applied_credit(class, units, bill, self.worth(class, units));
         let used = self.used(class, units, bill, applied);
         Credit { applied, used }
     }
 }
 
 impl Volumetric {
-    fn applied(&self, class: u8, units: u64, bill: u64) -> u64
-        ensures { result ≡ applied_credit (by_rates self.now.rates) class units bill }
-    {
-        if in_ranges(class, units, bill) {
-            bill.min(self.worth(class, units))
-        } else {
-            0
-        }
-    }
-
     // A credit takes its cents over the rate, rounded up to whole units.
     fn used(&self, class: u8, units: u64, bill: u64, applied: u64) -> u64
         requires { applied ≡ applied_credit (by_rates self.now.rates) class units bill }

@@ -1,14 +1,36 @@
--- The loop leaves at the first rate out of range, or it has passed all sixteen.
-use Rattle.std.proofs.Common.{sym, arith}
-use Rattle.crediting.proofs.Leading.{accepted, refused}
+-- The first rate out of range is told, and where there is none all sixteen are in range.
+use Rattle.std.proofs.Common.{◌≡◌, ℕ, ◌<◌, ◌≤◌, Bool, true, false, not, eqb, List, length, get_or, position, Some, None, sym, refl, ◌∙◌, arith, eq-eqb}
+use Rattle.std.proofs.lemmas.Bool.{and_parts, leb-true}
+use Rattle.std.proofs.lemmas.Grind.{common_steps}
+use Rattle.std.proofs.lemmas.List.Quantifiers.{position-Some}
+use Rattle.std.proofs.lemmas.List.Sums.{fails_before_first}
+use Rattle.std.specs.List.{position_or_len}
+use Rattle.crediting.specs.Refusals.{FirstUnfair}
+use Rattle.crediting.specs.Worths.{Fair, fair}
 use Rattle.crediting.proofs.rates.judge.Goals as goal
 
-pub returns-then-not-is_fair : goal.returns-then-not-is_fair
-returns-then-not-is_fair c =
-    let r = refused c.args.rates.now c.loop-place.place c.if-rates-ne16.false (record { within = c.loop-place-test.true; unfair = sym c.if-not-is_fair.ensures; earlier = c.loop-place.invariant }) in
-    record { answer = r.0; told = r.1 }
+not_not : (b : Bool) → not b ≡ false → b ≡ true
+not_not true e = refl
+not_not false e = sym e
 
-pub returns : goal.returns
-returns c =
-    let r = accepted c.args.rates.now c.if-rates-ne16.false (λ i h. c.loop-place.invariant i (omega arith)) in
-    record { answer = r.0; told = r.1 }
+not_yes : (b : Bool) → not b ≡ true → b ≡ false
+not_yes true e = sym e
+not_yes false e = refl
+
+first : (rs : List ℕ) (p : ℕ) → position (λ r. not (fair r)) rs ≡ Some p → FirstUnfair rs p
+first rs p e =
+    let at = position-Some (λ r. not (fair r)) rs p 0 e in
+    record { within = at.0; unfair = not_yes _ at.1; earlier = λ i h. not_not _ (at.2 i h) }
+
+all : (rs : List ℕ) → length rs ≡ 16 → position (λ r. not (fair r)) rs ≡ None → Fair rs
+all rs count e =
+    let past : length rs ≤ position_or_len (λ r. not (fair r)) rs = grind (arith, common_steps) in
+    (count, λ i h. let t = and_parts _ _ (not_not _ (fails_before_first (λ r. not (fair r)) rs i 0 (omega arith))) in (leb-true 1 (get_or rs i 0) t.0, leb-true (get_or rs i 0) 1_000_000 t.1))
+
+pub returns-in-Some-clause-told : goal.returns-in-Some-clause-told
+returns-in-Some-clause-told c =
+    let count : eqb (length c.args.rates.now) 16 ≡ true = eq-eqb _ _ c.if-rates-ne16.false in
+    (refl, rw count (first c.args.rates.now c.in-Some.place (sym c.in-Some.ensures)))
+
+pub returns-in-None-clause-told : goal.returns-in-None-clause-told
+returns-in-None-clause-told c = all c.args.rates.now c.if-rates-ne16.false (sym c.in-None.ensures)
