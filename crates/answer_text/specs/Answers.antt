@@ -5,7 +5,8 @@ use Rattle.ledger.specs.declared.call.Done.TheVariants.{Enrolled, Opened, Billed
 use Rattle.ledger.specs.declared.call.Posting.{Posting}
 use Rattle.ledger.specs.declared.call.Refusal.{Refusal}
 use Rattle.ledger.specs.declared.call.Settlement.{Settlement}
-use Rattle.answer_text.specs.Reasons.{declined_text}
+use Rattle.ledger.specs.Refusals.{number, place, reason}
+use Rattle.answer_text.specs.Reasons.{refused_text}
 
 abbrev pub bill_text : Posting → List ℕ
 bill_text p =
@@ -36,7 +37,7 @@ done_text (Closed s) = close_text s
 -- what a call answers: the word is that of the statement that makes it
 abbrev pub answer_text : List ℕ → Result Done Refusal → List ℕ
 answer_text word (Ok done) = done_text done
-answer_text word (Err why) = declined_text word why
+answer_text word (Err why) = refused_text word (number why) (place why) (reason why)
 
 abbrev pub request_text : ℕ → List ℕ
 request_text lines = codes "request: " ++ (decimal lines ++ codes " lines")

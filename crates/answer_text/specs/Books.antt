@@ -1,28 +1,11 @@
 -- The lines after the last statement: the ledger, its accounts, and the totals.
 use Rattle.std.specs.Prelude.{ℕ, List, ◌++◌, codes, decimal}
 use Rattle.accounts.specs.declared.record.Record.{Record}
-use Rattle.accounts.specs.declared.record.Size.{Size}
-use Rattle.accounts.specs.declared.record.Size.TheVariants.{Small, Large}
-use Rattle.accounts.specs.declared.record.Kind.{Kind}
-use Rattle.accounts.specs.declared.record.Kind.TheVariants.{Member, Anchor}
-use Rattle.accounts.specs.declared.record.State.{State}
-use Rattle.accounts.specs.declared.record.State.TheVariants.{Open, Closed}
+use Rattle.accounts.specs.Marks.{size_text, kind_text, state_text}
 use Rattle.ledger.specs.declared.phase.Phase.{Phase}
 use Rattle.ledger.specs.declared.phase.Phase.TheVariants.{Between, InPeriod}
 use Rattle.answer_text.specs.declared.totals.UnitTotals.{UnitTotals}
 use Rattle.answer_text.specs.declared.totals.CentTotals.{CentTotals}
-
-abbrev pub size_text : Size → List ℕ
-size_text Small = codes "S"
-size_text Large = codes "L"
-
-abbrev pub kind_text : Kind → List ℕ
-kind_text Member = codes "M"
-kind_text Anchor = codes "X"
-
-abbrev pub state_text : State → List ℕ
-state_text Open = codes "open"
-state_text Closed = codes "closed"
 
 abbrev pub phase_line : List ℕ → ℕ → ℕ → ℕ → ℕ → List ℕ
 phase_line when closed bank applied fees =

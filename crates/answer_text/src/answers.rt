@@ -2,7 +2,7 @@
 ghost use Rattle.std.specs.Prelude.{◌≡◌, IfOk, string_bytes};
 ghost use Rattle.answer_text.specs.Answers.{bill_text, final_text, close_text, done_text, answer_text, request_text};
 
-use crate::refusals::declined_line;
+use crate::refusal::refusal_line;
 use ledger::call::{Done, Posting, Refusal, Settlement};
 use std::alloc::{AllocError, Global};
 
@@ -15,20 +15,24 @@ pub const RATES_SET: &str = "rates: set";
 fn bill_line(posting: Posting, heap: Global) -> Result<String, AllocError>
     ensures { IfOk result (λ s. string_bytes s ≡ bill_text posting) }
 {
-    let applied = posting.applied;
-    let used = posting.used;
-    let net = posting.net;
-    let fee = posting.fee;
+    let Posting {
+        applied,
+        used,
+        net,
+        fee,
+    } = posting;
     format!(in heap; "bill: applied {applied} used {used} net {net} fee {fee}")
 }
 
 fn final_line(posting: Posting, forfeited: u64, heap: Global) -> Result<String, AllocError>
     ensures { IfOk result (λ s. string_bytes s ≡ final_text posting forfeited) }
 {
-    let applied = posting.applied;
-    let used = posting.used;
-    let net = posting.net;
-    let fee = posting.fee;
+    let Posting {
+        applied,
+        used,
+        net,
+        fee,
+    } = posting;
     format!(in heap;
         "final: applied {applied} used {used} net {net} fee {fee} forfeited {forfeited}"
     )
@@ -37,10 +41,12 @@ fn final_line(posting: Posting, forfeited: u64, heap: Global) -> Result<String, 
 fn close_line(settlement: Settlement, heap: Global) -> Result<String, AllocError>
     ensures { IfOk result (λ s. string_bytes s ≡ close_text settlement) }
 {
-    let applied = settlement.applied;
-    let fees = settlement.fees;
-    let utility = settlement.utility;
-    let payment = settlement.payment;
+    let Settlement {
+        applied,
+        fees,
+        utility,
+        payment,
+    } = settlement;
     format!(in heap; "close: applied {applied} fees {fees} utility {utility} payment {payment}")
 }
 
@@ -69,7 +75,7 @@ pub fn answer_line(
 {
     match answer {
         Ok(done) => done_line(done, heap),
-        Err(why) => declined_line(word, why, heap),
+        Err(why) => refusal_line(word, &why, heap),
     }
 }
 

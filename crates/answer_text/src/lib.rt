@@ -4,6 +4,5 @@
 pub mod answers;
 pub mod books;
 pub mod mistakes;
-pub mod reasons;
-pub mod refusals;
+pub mod refusal;
 pub mod totals;
