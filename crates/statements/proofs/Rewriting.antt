@@ -1,16 +1,21 @@
--- Each form of a statement, written and read again.
-use Rattle.std.proofs.Common.{◌≡◌, ℕ, suc, ◌^◌, ◌<◌, ◌≤◌, Bool, true, false, cond, List, [], ◌∷◌, ◌++◌, map, get_or, Some, Ok, Err, codes, IsUtf8, decimal, refl, ap, ◌∙◌, arith}
-use Rattle.std.specs.List.{AllByRecursion}
+-- The text of a statement is read as the statement.
+use Rattle.std.proofs.Common.{◌≡◌, ℕ, suc, ◌^◌, ◌<◌, ◌≤◌, Bool, true, false, cond, List, [], ◌∷◌, ◌++◌, map, get_or, Some, Ok, Err, IsUtf8, codes, decimal, string_bytes, IfOk, Result, String, Global, sym, refl, ap, ◌∙◌, append_assoc, append-nil, arith}
+use Rattle.std.proofs.lemmas.Result.{IfOk-weaker}
+use Rattle.std.specs.List.{flat_map, AllByRecursion}
+use Rattle.std.specs.Option.{ok_or}
+use Rattle.std.specs.declared.alloc.AllocError.{AllocError}
+use Rattle.accounts.specs.Marks.{size_text, kind_text}
+use Rattle.accounts.specs.declared.record.Line.{Line}
 use Rattle.accounts.specs.declared.record.Size.{Size}
 use Rattle.accounts.specs.declared.record.Size.TheVariants.{Small, Large}
 use Rattle.accounts.specs.declared.record.Kind.{Kind}
 use Rattle.accounts.specs.declared.record.Kind.TheVariants.{Member, Anchor}
 use Rattle.statements.specs.declared.statement.BookKind.TheVariants.{Table, Image}
-use Rattle.statements.specs.declared.statement.Expected.TheVariants.{File}
+use Rattle.statements.specs.declared.statement.Expected.TheVariants.{File, Rate}
 use Rattle.statements.specs.declared.statement.MethodName.{MethodName}
 use Rattle.statements.specs.declared.statement.MethodName.TheVariants.{ValueStack, Volumetric}
 use Rattle.statements.specs.declared.statement.ParseError.TheVariants.{Expected as expected}
-use Rattle.statements.specs.Fields.{and_then, most8, most16, most32, most64}
+use Rattle.statements.specs.Fields.{and_then, most8, most16, most32, most64, rates_from}
 use Rattle.statements.specs.Meanings.{
   Meaning,
   a_method,
@@ -30,96 +35,91 @@ use Rattle.statements.specs.Meanings.{
   words_say,
 }
 use Rattle.statements.specs.Numbers.{number_of}
-use Rattle.statements.specs.Texts.{text_of, method_text, project_text, size_text, kind_text, is_word, Written}
+use Rattle.statements.specs.Texts.{text_of, method_text, project_text, rate_text, is_word, readable, Written}
 use Rattle.statements.specs.Words.{words}
-use Rattle.statements.proofs.Again.{word_then, word_last, decimal_word, number_decimal, rate_words, rates_again}
+use Rattle.statements.proofs.Again.{joined, AreWords, words_joined, decimal_word, number_decimal}
 use Rattle.statements.proofs.Listing.{text_is}
+
+-- each number is one of its type, and a file's name is text
+abbrev pub Fitting : Meaning → Type 0
+Fitting (a_method name) = Unit {0}
+Fitting (a_book (Table places)) = places < 2 ^ 64
+Fitting (a_book (Image bytes)) = bytes < 2 ^ 64
+Fitting (an_opening project) = project.smallest < 2 ^ 32
+Fitting (some_rates rates) = AllByRecursion (λ r. r ≤ most32) rates
+Fitting (a_line l) = (l.account < 2 ^ 64) × (l.percentage < 2 ^ 32) × (l.savings < 2 ^ 16) × (l.class < 2 ^ 8)
+Fitting (a_request name) = IsUtf8 name
+Fitting an_enrolment = Unit {0}
+Fitting (a_reading units) = units < 2 ^ 64
+Fitting (a_bill account cents) = (account < 2 ^ 64) × (cents < 2 ^ 64)
+Fitting (a_final_bill account cents) = (account < 2 ^ 64) × (cents < 2 ^ 64)
+Fitting (a_disbursement account units) = (account < 2 ^ 64) × (units < 2 ^ 64)
+Fitting a_lapse = Unit {0}
+Fitting a_close = Unit {0}
 
 -- what holds at each index holds of each
 pub every_at : (rs : List ℕ) → ((i : ℕ) → get_or rs i 0 ≤ most32) → AllByRecursion (λ r. r ≤ most32) rs
 every_at [] h = tt
 every_at (r ∷ rs) h = (h 0, every_at rs (λ i. h (suc i)))
 
--- by the words of the text
-from_words : (m : Meaning) (bs : List ℕ) (ws : List (List ℕ)) → bs ≡ text_of m → words (text_of m) ≡ ws → words_say ws ≡ Ok (Some m) → Written m bs
-from_words m bs ws e v s = record { bytes = e; again = λ _. ap statement_of e ∙ ap words_say v ∙ s }
+abbrev words_of : Meaning → List (List ℕ)
+words_of (a_method name) = codes "method" ∷ method_text name ∷ []
+words_of (a_book (Table places)) = codes "book" ∷ codes "table" ∷ decimal places ∷ []
+words_of (a_book (Image bytes)) = codes "book" ∷ codes "image" ∷ decimal bytes ∷ []
+words_of (an_opening project) = codes "open" ∷ decimal project.smallest ∷ project_text project.farm ∷ []
+words_of (some_rates rates) = codes "rates" ∷ map decimal rates
+words_of (a_line l) =
+    codes "line" ∷ decimal l.account ∷ decimal l.percentage ∷ decimal l.savings ∷ decimal l.class ∷ size_text l.size ∷ kind_text l.kind ∷ []
+words_of (a_request name) = codes "request" ∷ name ∷ []
+words_of an_enrolment = codes "enrol" ∷ []
+words_of (a_reading units) = codes "reading" ∷ decimal units ∷ []
+words_of (a_bill account cents) = codes "bill" ∷ decimal account ∷ decimal cents ∷ []
+words_of (a_final_bill account cents) = codes "final" ∷ decimal account ∷ decimal cents ∷ []
+words_of (a_disbursement account units) = codes "disburse" ∷ decimal account ∷ decimal units ∷ []
+words_of a_lapse = codes "lapse" ∷ []
+words_of a_close = codes "close" ∷ []
+
+-- rates
+rates_joined : (w : List ℕ) (rs : List ℕ) → w ++ flat_map rate_text rs ≡ joined (w ∷ map decimal rs)
+rates_joined w [] = append-nil w
+rates_joined w (r ∷ rs) = ap (λ t. w ++ 32 ∷ t) (rates_joined (decimal r) rs)
+
+rate_words : (rs : List ℕ) → AllByRecursion (λ r. r ≤ most32) rs → AreWords (map decimal rs)
+rate_words [] h = tt
+rate_words (r ∷ rs) h = (decimal_word r (omega (arith, h.0)), rate_words rs h.1)
+
+rates_again : (acc rs : List ℕ) → AllByRecursion (λ r. r ≤ most32) rs → rates_from acc (map decimal rs) ≡ Ok (acc ++ rs)
+unfolding rates_from
+rates_again acc [] e = ap Ok (sym (append-nil acc))
+rates_again acc (r ∷ rs) e =
+    ap (λ o. and_then (ok_or o (expected Rate)) λ n. rates_from (acc ++ n ∷ []) (map decimal rs)) (number_decimal most32 r (omega (arith, e.0)) e.0)
+    ∙ rates_again (acc ++ r ∷ []) rs e.1
+    ∙ ap Ok (append_assoc acc (r ∷ []) rs)
+
+-- the words of the text
+text_joined : (m : Meaning) → text_of m ≡ joined (words_of m)
+text_joined (a_method name) = refl
+text_joined (a_book (Table places)) = refl
+text_joined (a_book (Image bytes)) = refl
+text_joined (an_opening project) = refl
+text_joined (some_rates rates) = rates_joined (codes "rates") rates
+text_joined (a_line l) = refl
+text_joined (a_request name) = refl
+text_joined an_enrolment = refl
+text_joined (a_reading units) = refl
+text_joined (a_bill account cents) = refl
+text_joined (a_final_bill account cents) = refl
+text_joined (a_disbursement account units) = refl
+text_joined a_lapse = refl
+text_joined a_close = refl
 
 method_word : (name : MethodName) → is_word (method_text name) ≡ true
 method_word ValueStack = refl
 method_word Volumetric = refl
 
-method_said : (name : MethodName) → words_say (codes "method" ∷ method_text name ∷ []) ≡ Ok (Some (a_method name))
-method_said ValueStack = refl
-method_said Volumetric = refl
-
-pub method_again : (bs : List ℕ) (name : MethodName) → bs ≡ text_of (a_method name) → Written (a_method name) bs
-method_again bs name e =
-    from_words (a_method name) bs (codes "method" ∷ method_text name ∷ []) e (word_then (codes "method") (method_text name) refl ∙ ap (λ ws. codes "method" ∷ ws) (word_last (method_text name) (method_word name))) (method_said name)
-
-pub enrol_again : (bs : List ℕ) → bs ≡ codes "enrol" → Written an_enrolment bs
-enrol_again bs e = from_words an_enrolment bs (codes "enrol" ∷ []) e (word_last (codes "enrol") refl) refl
-
-pub lapse_again : (bs : List ℕ) → bs ≡ codes "lapse" → Written a_lapse bs
-lapse_again bs e = from_words a_lapse bs (codes "lapse" ∷ []) e (word_last (codes "lapse") refl) refl
-
-pub close_again : (bs : List ℕ) → bs ≡ codes "close" → Written a_close bs
-close_again bs e = from_words a_close bs (codes "close" ∷ []) e (word_last (codes "close") refl) refl
-
--- two words and a number
-two_and : (v w : List ℕ) (n : ℕ) → is_word v ≡ true → is_word w ≡ true → n < 2 ^ 64 → words (v ++ 32 ∷ (w ++ 32 ∷ decimal n)) ≡ v ∷ w ∷ decimal n ∷ []
-two_and v w n hv hw h =
-    word_then v (w ++ 32 ∷ decimal n) hv ∙ ap (λ ws. v ∷ ws) (word_then w (decimal n) hw ∙ ap (λ ws. w ∷ ws) (word_last (decimal n) (decimal_word n h)))
-
-pub table_again : (bs : List ℕ) (n : ℕ) → n < 2 ^ 64 → bs ≡ text_of (a_book (Table n)) → Written (a_book (Table n)) bs
-table_again bs n h e =
-    from_words (a_book (Table n)) bs (codes "book" ∷ codes "table" ∷ decimal n ∷ []) e (two_and (codes "book") (codes "table") n refl refl h) (rw (number_decimal most64 n h (omega arith)) refl)
-
-pub image_again : (bs : List ℕ) (n : ℕ) → n < 2 ^ 64 → bs ≡ text_of (a_book (Image n)) → Written (a_book (Image n)) bs
-image_again bs n h e =
-    from_words (a_book (Image n)) bs (codes "book" ∷ codes "image" ∷ decimal n ∷ []) e (two_and (codes "book") (codes "image") n refl refl h) (rw (number_decimal most64 n h (omega arith)) refl)
-
 project_word : (farm : Bool) → is_word (project_text farm) ≡ true
 project_word true = refl
 project_word false = refl
-
-project_said : (n : ℕ) (farm : Bool) → number_of most32 (decimal n) ≡ Some n → words_say (codes "open" ∷ decimal n ∷ project_text farm ∷ []) ≡ Ok (Some (an_opening n farm))
-project_said n true e = rw e refl
-project_said n false e = rw e refl
-
-pub open_again : (bs : List ℕ) (n : ℕ) (farm : Bool) → n < 2 ^ 32 → bs ≡ text_of (an_opening n farm) → Written (an_opening n farm) bs
-open_again bs n farm h e =
-    from_words (an_opening n farm) bs (codes "open" ∷ decimal n ∷ project_text farm ∷ []) e
-    (word_then (codes "open") (decimal n ++ 32 ∷ project_text farm) refl ∙ ap (λ ws. codes "open" ∷ ws) (word_then (decimal n) (project_text farm) (decimal_word n (omega arith)) ∙ ap (λ ws. decimal n ∷ ws) (word_last (project_text farm) (project_word farm))))
-    (project_said n farm (number_decimal most32 n (omega arith) (omega arith)))
-
-pub rates_written : (bs rs : List ℕ) → AllByRecursion (λ r. r ≤ most32) rs → bs ≡ text_of (some_rates rs) → Written (some_rates rs) bs
-rates_written bs rs h e =
-    from_words (some_rates rs) bs (codes "rates" ∷ map decimal rs) e (rate_words (codes "rates") rs refl h) (rw (rates_again [] rs h) refl)
-
-pub request_again : (bs name : List ℕ) → IsUtf8 name → bs ≡ text_of (a_request name) → Written (a_request name) bs
-request_again bs name u e =
-    record {
-      bytes = e;
-      again = λ h.
-          ap statement_of e ∙ ap words_say (word_then (codes "request") name refl ∙ ap (λ ws. codes "request" ∷ ws) (word_last name h))
-          ∙ ap (λ t. and_then (and_then (and_then (cond t (Ok name) (Err (expected File))) λ n. Ok n) λ n. Ok (a_request n)) λ m. Ok (Some m)) (text_is name u);
-    }
-
-pub reading_again : (bs : List ℕ) (n : ℕ) → n < 2 ^ 64 → bs ≡ text_of (a_reading n) → Written (a_reading n) bs
-reading_again bs n h e =
-    from_words (a_reading n) bs (codes "reading" ∷ decimal n ∷ []) e (word_then (codes "reading") (decimal n) refl ∙ ap (λ ws. codes "reading" ∷ ws) (word_last (decimal n) (decimal_word n h))) (rw (number_decimal most64 n h (omega arith)) refl)
-
-pub bill_again : (bs : List ℕ) (a n : ℕ) → a < 2 ^ 64 → n < 2 ^ 64 → bs ≡ text_of (a_bill a n) → Written (a_bill a n) bs
-bill_again bs a n k h e =
-    from_words (a_bill a n) bs (codes "bill" ∷ decimal a ∷ decimal n ∷ []) e (two_and (codes "bill") (decimal a) n refl (decimal_word a k) h) (rw (number_decimal most64 a k (omega arith), number_decimal most64 n h (omega arith)) refl)
-
-pub final_again : (bs : List ℕ) (a n : ℕ) → a < 2 ^ 64 → n < 2 ^ 64 → bs ≡ text_of (a_final_bill a n) → Written (a_final_bill a n) bs
-final_again bs a n k h e =
-    from_words (a_final_bill a n) bs (codes "final" ∷ decimal a ∷ decimal n ∷ []) e (two_and (codes "final") (decimal a) n refl (decimal_word a k) h) (rw (number_decimal most64 a k (omega arith), number_decimal most64 n h (omega arith)) refl)
-
-pub disburse_again : (bs : List ℕ) (a n : ℕ) → a < 2 ^ 64 → n < 2 ^ 64 → bs ≡ text_of (a_disbursement a n) → Written (a_disbursement a n) bs
-disburse_again bs a n k h e =
-    from_words (a_disbursement a n) bs (codes "disburse" ∷ decimal a ∷ decimal n ∷ []) e (two_and (codes "disburse") (decimal a) n refl (decimal_word a k) h) (rw (number_decimal most64 a k (omega arith), number_decimal most64 n h (omega arith)) refl)
 
 size_word : (size : Size) → is_word (size_text size) ≡ true
 size_word Small = refl
@@ -129,31 +129,62 @@ kind_word : (kind : Kind) → is_word (kind_text kind) ≡ true
 kind_word Member = refl
 kind_word Anchor = refl
 
--- a line's four numbers
-module _ (a p s k : ℕ) (ha : a < 2 ^ 64) (hp : p < 2 ^ 32) (hs : s < 2 ^ 16) (hk : k < 2 ^ 8) where
-  line_words : (size : Size) (kind : Kind) → words (text_of (a_line (record { account = a; percentage = p; savings = s; class = k; size = size; kind = kind }))) ≡ codes "line" ∷ decimal a ∷ decimal p ∷ decimal s ∷ decimal k ∷ size_text size ∷ kind_text kind ∷ []
-  line_words size kind =
-      let w₆ = word_last (kind_text kind) (kind_word kind) in
-      let w₅ = word_then (size_text size) (kind_text kind) (size_word size) ∙ ap (λ ws. size_text size ∷ ws) w₆ in
-      let w₄ = word_then (decimal k) (size_text size ++ 32 ∷ kind_text kind) (decimal_word k (omega arith)) ∙ ap (λ ws. decimal k ∷ ws) w₅ in
-      let w₃ = word_then (decimal s) (decimal k ++ 32 ∷ (size_text size ++ 32 ∷ kind_text kind)) (decimal_word s (omega arith)) ∙ ap (λ ws. decimal s ∷ ws) w₄ in
-      let w₂ = word_then (decimal p) (decimal s ++ 32 ∷ (decimal k ++ 32 ∷ (size_text size ++ 32 ∷ kind_text kind))) (decimal_word p (omega arith)) ∙ ap (λ ws. decimal p ∷ ws) w₃ in
-      let w₁ = word_then (decimal a) (decimal p ++ 32 ∷ (decimal s ++ 32 ∷ (decimal k ++ 32 ∷ (size_text size ++ 32 ∷ kind_text kind)))) (decimal_word a ha) ∙ ap (λ ws. decimal a ∷ ws) w₂ in
-      word_then (codes "line") (decimal a ++ 32 ∷ (decimal p ++ 32 ∷ (decimal s ++ 32 ∷ (decimal k ++ 32 ∷ (size_text size ++ 32 ∷ kind_text kind))))) refl ∙ ap (λ ws. codes "line" ∷ ws) w₁
+are_words : (m : Meaning) → Fitting m → readable m ≡ true → AreWords (words_of m)
+are_words (a_method name) f r = (refl, (method_word name, tt))
+are_words (a_book (Table places)) f r = (refl, (refl, (decimal_word places f, tt)))
+are_words (a_book (Image bytes)) f r = (refl, (refl, (decimal_word bytes f, tt)))
+are_words (an_opening project) f r = (refl, (decimal_word project.smallest (omega arith), (project_word project.farm, tt)))
+are_words (some_rates rates) f r = (refl, rate_words rates f)
+are_words (a_line l) f r =
+    (refl, (decimal_word l.account (omega arith), (decimal_word l.percentage (omega arith), (decimal_word l.savings (omega arith), (decimal_word l.class (omega arith), (size_word l.size, (kind_word l.kind, tt)))))))
+are_words (a_request name) f r = (refl, (r, tt))
+are_words an_enrolment f r = (refl, tt)
+are_words (a_reading units) f r = (refl, (decimal_word units f, tt))
+are_words (a_bill account cents) f r = (refl, (decimal_word account f.0, (decimal_word cents f.1, tt)))
+are_words (a_final_bill account cents) f r = (refl, (decimal_word account f.0, (decimal_word cents f.1, tt)))
+are_words (a_disbursement account units) f r = (refl, (decimal_word account f.0, (decimal_word units f.1, tt)))
+are_words a_lapse f r = (refl, tt)
+are_words a_close f r = (refl, tt)
 
-  abbrev line : Size → Kind → Meaning
-  line size kind = a_line (record { account = a; percentage = p; savings = s; class = k; size = size; kind = kind })
+-- what the words say
+method_said : (name : MethodName) → words_say (words_of (a_method name)) ≡ Ok (Some (a_method name))
+method_said ValueStack = refl
+method_said Volumetric = refl
 
-  line_said : number_of most64 (decimal a) ≡ Some a → number_of most32 (decimal p) ≡ Some p → number_of most16 (decimal s) ≡ Some s → number_of most8 (decimal k) ≡ Some k → (size : Size) (kind : Kind) → words_say (codes "line" ∷ decimal a ∷ decimal p ∷ decimal s ∷ decimal k ∷ size_text size ∷ kind_text kind ∷ []) ≡ Ok (Some (line size kind))
-  line_said ea ep es ek Small Member = rw (ea, ep, es, ek) refl
-  line_said ea ep es ek Small Anchor = rw (ea, ep, es, ek) refl
-  line_said ea ep es ek Large Member = rw (ea, ep, es, ek) refl
-  line_said ea ep es ek Large Anchor = rw (ea, ep, es, ek) refl
+project_said : (n : ℕ) (farm : Bool) → number_of most32 (decimal n) ≡ Some n → words_say (codes "open" ∷ decimal n ∷ project_text farm ∷ []) ≡ Ok (Some (an_opening (record { smallest = n; farm = farm })))
+project_said n true e = rw e refl
+project_said n false e = rw e refl
 
-  pub line_again : (bs : List ℕ) (size : Size) (kind : Kind) → bs ≡ text_of (line size kind) → Written (line size kind) bs
-  line_again bs size kind e =
-      from_words (line size kind) bs (codes "line" ∷ decimal a ∷ decimal p ∷ decimal s ∷ decimal k ∷ size_text size ∷ kind_text kind ∷ []) e (line_words size kind)
-      (line_said (number_decimal most64 a ha (omega arith)) (number_decimal most32 p (omega arith) (omega arith)) (number_decimal most16 s (omega arith) (omega arith)) (number_decimal most8 k (omega arith) (omega arith)) size kind)
+line_said : (l : Line) (size : Size) (kind : Kind) → number_of most64 (decimal l.account) ≡ Some l.account → number_of most32 (decimal l.percentage) ≡ Some l.percentage → number_of most16 (decimal l.savings) ≡ Some l.savings → number_of most8 (decimal l.class) ≡ Some l.class → words_say (words_of (a_line (record l { size = size; kind = kind }))) ≡ Ok (Some (a_line (record l { size = size; kind = kind })))
+line_said l Small Member a p s k = rw (a, p, s, k) refl
+line_said l Small Anchor a p s k = rw (a, p, s, k) refl
+line_said l Large Member a p s k = rw (a, p, s, k) refl
+line_said l Large Anchor a p s k = rw (a, p, s, k) refl
 
-  pub line_written : (bs t u : List ℕ) (size : Size) (kind : Kind) → t ≡ size_text size → u ≡ kind_text kind → bs ≡ codes "line " ++ (decimal a ++ (codes " " ++ (decimal p ++ (codes " " ++ (decimal s ++ (codes " " ++ (decimal k ++ (codes " " ++ (t ++ (codes " " ++ u)))))))))) → Written (line size kind) bs
-  line_written bs t u size kind et eu e = line_again bs size kind (rw (et, eu) at e)
+said : (m : Meaning) → Fitting m → words_say (words_of m) ≡ Ok (Some m)
+said (a_method name) f = method_said name
+said (a_book (Table places)) f = rw (number_decimal most64 places f (omega arith)) refl
+said (a_book (Image bytes)) f = rw (number_decimal most64 bytes f (omega arith)) refl
+said (an_opening project) f = project_said project.smallest project.farm (number_decimal most32 project.smallest (omega arith) (omega arith))
+said (some_rates rates) f = rw (rates_again [] rates f) refl
+said (a_line l) f =
+    line_said l l.size l.kind (number_decimal most64 l.account (omega arith) (omega arith)) (number_decimal most32 l.percentage (omega arith) (omega arith)) (number_decimal most16 l.savings (omega arith) (omega arith)) (number_decimal most8 l.class (omega arith) (omega arith))
+said (a_request name) f =
+    ap (λ t. and_then (and_then (and_then (cond t (Ok name) (Err (expected File))) λ n. Ok n) λ n. Ok (a_request n)) λ m. Ok (Some m)) (text_is name f)
+said an_enrolment f = refl
+said (a_reading units) f = rw (number_decimal most64 units f (omega arith)) refl
+said (a_bill account cents) f = rw (number_decimal most64 account f.0 (omega arith), number_decimal most64 cents f.1 (omega arith)) refl
+said (a_final_bill account cents) f = rw (number_decimal most64 account f.0 (omega arith), number_decimal most64 cents f.1 (omega arith)) refl
+said (a_disbursement account units) f = rw (number_decimal most64 account f.0 (omega arith), number_decimal most64 units f.1 (omega arith)) refl
+said a_lapse f = refl
+said a_close f = refl
+
+pub written : (m : Meaning) (bs : List ℕ) → Fitting m → bs ≡ text_of m → Written m bs
+written m bs f e =
+    record {
+      bytes = e;
+      again = λ r. ap statement_of (e ∙ text_joined m) ∙ ap words_say (words_joined (words_of m) (are_words m f r)) ∙ said m f;
+    }
+
+pub reads_again : (m : Meaning) → Fitting m → (r : Result (String Global) AllocError) → IfOk r (λ s. string_bytes s ≡ text_of m) → IfOk r (λ s. Written m (string_bytes s))
+reads_again m f r h = IfOk-weaker r _ _ (λ s e. written m (string_bytes s) f e) h

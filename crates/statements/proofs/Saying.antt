@@ -1,8 +1,9 @@
 -- A line's first word tells how the others are read.
-use Rattle.std.proofs.Common.{◌≡◌, ℕ, true, false, List, [], ◌∷◌, Some, None, Ok, Err, sym, ap, ◌∙◌, arith}
+use Rattle.std.proofs.Common.{◌≡◌, ℕ, true, false, List, [], ◌∷◌, Some, None, Ok, Err, Option, Result, MatchResult, IsOkAnd, sym, ap, ◌∙◌, arith}
 use Rattle.std.proofs.lemmas.Bool.{cond-false}
-use Rattle.std.specs.Option.{option_map}
+use Rattle.std.specs.Option.{option_map, ok_or}
 use Rattle.statements.specs.declared.keyword.Keyword.{Keyword}
+use Rattle.statements.specs.declared.statement.Expected.TheVariants as what
 use Rattle.statements.specs.declared.statement.ParseError.{ParseError}
 use Rattle.statements.specs.declared.statement.ParseError.TheVariants.{Expected as expected, NoMemory}
 use Rattle.statements.specs.declared.statement.Statement.{Statement}
@@ -12,26 +13,24 @@ use Rattle.statements.specs.Meanings.{meaning, says, says_named, is_remark, word
 use Rattle.statements.specs.Words.{first, rest}
 
 split : (xs : List (List ℕ)) (w : List ℕ) (ws : List (List ℕ)) → Some w ≡ first xs → ws ≡ rest xs → xs ≡ w ∷ ws
-split [] w ws e k = let z : ◌≡◌ {A = ℕ} 0 1 = cc in absurd (omega arith)
+split [] w ws e k = cc
 split (x ∷ xs) w ws e k = cc
 
--- a line that is no remark, by its first word
-pub record Headed (xs : List (List ℕ)) (w : List ℕ) (ws : List (List ℕ)) (k : Keyword) : Type 0 where
-  pub head : Some w ≡ first xs
-  pub tail : ws ≡ rest xs
-  pub plain : is_remark w ≡ false
-  pub named : Some k ≡ keyword_of w
+-- a line that is no remark says what its first word makes of the others
+says_so : (xs : List (List ℕ)) (w : List ℕ) (ws : List (List ℕ)) (k : Keyword) → Some w ≡ first xs → ws ≡ rest xs → is_remark w ≡ false → keyword_of w ≡ Some k → words_say xs ≡ and_then (says k ws) λ m. Ok (Some m)
+says_so xs w ws k head tail plain named =
+    ap words_say (split xs w ws head tail) ∙ cond-false (is_remark w) (Ok None) (says_named (keyword_of w) ws) plain ∙ ap (λ o. says_named o ws) named
 
-says_so : {xs : List (List ℕ)} {w : List ℕ} {ws : List (List ℕ)} {k : Keyword} → Headed xs w ws k → words_say xs ≡ and_then (says k ws) λ m. Ok (Some m)
-says_so {xs} {w} {ws} {k} h =
-    ap words_say (split xs w ws h.head h.tail) ∙ cond-false (is_remark w) (Ok None) (says_named (keyword_of w) ws) h.plain ∙ ap (λ o. says_named o ws) (sym h.named)
+named_so : {X E : Type 0} (o : Option X) (x : X) (e : E) → Ok x ≡ ok_or o e → o ≡ Some x
+named_so o x e h = grind arith
 
-pub said : {xs : List (List ℕ)} {w : List ℕ} {ws : List (List ℕ)} {k : Keyword} → Headed xs w ws k → (s : Statement) → says k ws ≡ Ok (meaning s) → words_say xs ≡ Ok (Some (meaning s))
-said h s e = says_so h ∙ ap (λ r. and_then r λ m. Ok (Some m)) e
+pub told : (xs : List (List ℕ)) (w : List ℕ) (ws : List (List ℕ)) (k : Keyword) → Some w ≡ first xs → ws ≡ rest xs → is_remark w ≡ false → Ok k ≡ ok_or (keyword_of w) (expected what.Statement) → (r : Result Statement ParseError) → Told meaning (says k ws) r → (q : Result (Option Statement) ParseError) → MatchResult r (λ s. IsOkAnd q (λ o. o ≡ Some s)) (λ e. q ≡ Err e) → Told (option_map meaning) (words_say xs) q
+told xs w ws k head tail plain named (Ok s) t (Ok o) m =
+    says_so xs w ws k head tail plain (named_so _ _ _ named) ∙ ap (λ r. and_then r λ m. Ok (Some m)) t ∙ ap (λ x. Ok (option_map meaning x)) (sym m)
+told xs w ws k head tail plain named (Ok s) t (Err e) m = absurd m
+told xs w ws k head tail plain named (Err (expected what)) t q m =
+    rw m (says_so xs w ws k head tail plain (named_so _ _ _ named) ∙ ap (λ r. and_then r λ m. Ok (Some m)) t)
+told xs w ws k head tail plain named (Err NoMemory) t q m = rw m tt
 
-pub refused : {xs : List (List ℕ)} {w : List ℕ} {ws : List (List ℕ)} {k : Keyword} → Headed xs w ws k → (e : ParseError) → Told meaning (says k ws) (Err e) → Told (option_map meaning) (words_say xs) (Err e)
-refused h (expected what) t = says_so h ∙ ap (λ r. and_then r λ m. Ok (Some m)) t
-refused h NoMemory t = tt
-
-pub asks : {xs : List (List ℕ)} {w : List ℕ} {ws : List (List ℕ)} {k : Keyword} → Headed xs w ws k → keeps k ≡ true → asks_memory xs ≡ true
-asks {xs} {w} {ws} {k} h e = ap asks_memory (split xs w ws h.head h.tail) ∙ ap keeps_named (sym h.named) ∙ e
+pub asks : (xs : List (List ℕ)) (w : List ℕ) (ws : List (List ℕ)) (k : Keyword) → Some w ≡ first xs → ws ≡ rest xs → keyword_of w ≡ Some k → keeps k ≡ true → asks_memory xs ≡ true
+asks xs w ws k head tail named e = ap asks_memory (split xs w ws head tail) ∙ ap keeps_named named ∙ e

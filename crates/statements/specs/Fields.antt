@@ -3,6 +3,7 @@ use Rattle.std.specs.Prelude.{ℕ, Bool, true, false, cond, ◌&&◌, List, [], 
 use Rattle.std.proofs.Math.Utf8.{encodes, scalars}
 use Rattle.std.specs.Option.{ok_or}
 use Rattle.std.specs.Str.{bytes_eq, chars}
+use Rattle.accounts.specs.declared.project.Project.{Project}
 use Rattle.accounts.specs.declared.record.Line.{Line}
 use Rattle.accounts.specs.declared.record.Size.TheVariants.{Small, Large}
 use Rattle.accounts.specs.declared.record.Kind.TheVariants.{Member, Anchor}
@@ -66,12 +67,12 @@ book_of ws =
     Ok book
 
 -- the fewest lines of a request, and whether the project is a farm's
-abbrev pub open_of : List (List ℕ) → Result (ℕ × Bool) ParseError
+abbrev pub open_of : List (List ℕ) → Result Project ParseError
 open_of ws =
     and_then (number_at what.Smallest most32 (first ws)) λ smallest.
     and_then (either_at what.Project (codes "farm") true (codes "plain") false (first (rest ws))) λ farm.
     and_then (end_at (first (rest (rest ws)))) λ _.
-    Ok (smallest, farm)
+    Ok (record { smallest = smallest; farm = farm })
 
 -- the rates so far, then one more for each word
 unfoldable pub rates_from : List ℕ → List (List ℕ) → Result (List ℕ) ParseError

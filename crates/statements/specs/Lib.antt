@@ -4,3 +4,4 @@ pub mod Keywords
 pub mod Fields
 pub mod Meanings
 pub mod Texts
+pub mod Mistakes

@@ -1,5 +1,6 @@
 -- What a line of a journal says.
 use Rattle.std.specs.Prelude.{◌≡◌, ℕ, Bool, true, false, cond, List, [], ◌∷◌, Some, None, Ok, Err, vec_items, string_bytes, Option, Result, ◌==◌, slice_index}
+use Rattle.accounts.specs.declared.project.Project.{Project}
 use Rattle.accounts.specs.declared.record.Line.{Line}
 use Rattle.statements.specs.declared.keyword.Keyword.{Keyword}
 use Rattle.statements.specs.declared.keyword.Keyword.TheVariants as word
@@ -30,7 +31,7 @@ use Rattle.statements.specs.Words.{first}
 pub data Meaning : Type 0 where
   a_method : MethodName → Meaning
   a_book : BookKind → Meaning
-  an_opening : ℕ → Bool → Meaning
+  an_opening : Project → Meaning
   some_rates : List ℕ → Meaning
   a_line : Line → Meaning
   a_request : List ℕ → Meaning
@@ -45,7 +46,7 @@ pub data Meaning : Type 0 where
 abbrev pub meaning : Statement → Meaning
 meaning (is.Method name) = a_method name
 meaning (is.Book book) = a_book book
-meaning (is.Open smallest farm) = an_opening smallest farm
+meaning (is.Open project) = an_opening project
 meaning (is.Rates rates) = some_rates (vec_items rates)
 meaning (is.Line line) = a_line line
 meaning (is.Request name) = a_request (string_bytes name)
@@ -61,7 +62,7 @@ meaning is.Close = a_close
 abbrev pub says : Keyword → List (List ℕ) → Result Meaning ParseError
 says word.Method ws = and_then (method_of ws) λ name. Ok (a_method name)
 says word.Book ws = and_then (book_of ws) λ book. Ok (a_book book)
-says word.Open ws = and_then (open_of ws) λ p. Ok (an_opening p.0 p.1)
+says word.Open ws = and_then (open_of ws) λ project. Ok (an_opening project)
 says word.Rates ws = and_then (rates_from [] ws) λ rates. Ok (some_rates rates)
 says word.Line ws = and_then (line_of ws) λ line. Ok (a_line line)
 says word.Request ws = and_then (request_of ws) λ name. Ok (a_request name)

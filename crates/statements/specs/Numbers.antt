@@ -1,13 +1,11 @@
 -- The number that a word writes in decimal digits.
-use Rattle.std.specs.Prelude.{ℕ, ◌+◌, ◌-◌, ◌*◌, min, Bool, cond, ◌&&◌, List, [], ◌∷◌, Some, None, Option, nat_le}
-
-abbrev pub is_digit : ℕ → Bool
-is_digit b = nat_le 48 b && nat_le b 57
+use Rattle.std.specs.Prelude.{ℕ, ◌+◌, ◌-◌, ◌*◌, min, cond, List, [], ◌∷◌, Some, None, Option}
+use Rattle.std.specs.Char.{is_ascii_digit}
 
 -- digits behind a number so far; a number above the most that is told stands for that
 unfoldable pub digits_after : ℕ → ℕ → List ℕ → Option ℕ
 digits_after most n [] = Some (min n most)
-digits_after most n (b ∷ bs) = cond (is_digit b) (digits_after most (n * 10 + (b - 48)) bs) None
+digits_after most n (b ∷ bs) = cond (is_ascii_digit b) (digits_after most (n * 10 + (b - 48)) bs) None
 
 -- a number has a digit at least
 abbrev pub number_of : ℕ → List ℕ → Option ℕ

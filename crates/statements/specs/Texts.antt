@@ -2,10 +2,7 @@
 use Rattle.std.specs.Prelude.{◌≡◌, ℕ, Bool, true, false, not, ◌&&◌, List, [], ◌∷◌, ◌++◌, length, Some, Ok, codes, decimal, nat_lt}
 use Rattle.std.specs.List.{flat_map}
 use Rattle.accounts.specs.declared.record.Line.{Line}
-use Rattle.accounts.specs.declared.record.Size.{Size}
-use Rattle.accounts.specs.declared.record.Size.TheVariants.{Small, Large}
-use Rattle.accounts.specs.declared.record.Kind.{Kind}
-use Rattle.accounts.specs.declared.record.Kind.TheVariants.{Member, Anchor}
+use Rattle.accounts.specs.Marks.{size_text, kind_text}
 use Rattle.statements.specs.declared.statement.BookKind.{BookKind}
 use Rattle.statements.specs.declared.statement.BookKind.TheVariants.{Table, Image}
 use Rattle.statements.specs.declared.statement.MethodName.{MethodName}
@@ -41,14 +38,6 @@ abbrev pub project_text : Bool → List ℕ
 project_text true = codes "farm"
 project_text false = codes "plain"
 
-abbrev pub size_text : Size → List ℕ
-size_text Small = codes "S"
-size_text Large = codes "L"
-
-abbrev pub kind_text : Kind → List ℕ
-kind_text Member = codes "M"
-kind_text Anchor = codes "X"
-
 abbrev pub line_text : Line → List ℕ
 line_text l =
     decimal l.account ++ (codes " "
@@ -64,7 +53,7 @@ rate_text r = codes " " ++ decimal r
 abbrev pub text_of : Meaning → List ℕ
 text_of (a_method name) = codes "method " ++ method_text name
 text_of (a_book book) = codes "book " ++ book_text book
-text_of (an_opening smallest farm) = codes "open " ++ (decimal smallest ++ (codes " " ++ project_text farm))
+text_of (an_opening project) = codes "open " ++ (decimal project.smallest ++ (codes " " ++ project_text project.farm))
 text_of (some_rates rates) = codes "rates" ++ flat_map rate_text rates
 text_of (a_line line) = codes "line " ++ line_text line
 text_of (a_request name) = codes "request " ++ name
@@ -88,7 +77,7 @@ is_word w = nat_lt 0 (length w) && no_space w
 abbrev pub readable : Meaning → Bool
 readable (a_method name) = true
 readable (a_book book) = true
-readable (an_opening smallest farm) = true
+readable (an_opening project) = true
 readable (some_rates rates) = true
 readable (a_line line) = true
 readable (a_request name) = is_word name

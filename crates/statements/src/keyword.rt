@@ -1,7 +1,11 @@
 // The first word of a statement.
 ghost use Rattle.std.specs.Prelude.{◌≡◌};
-ghost use Rattle.std.specs.Str.{bytes_eq};
+ghost use Rattle.std.specs.Option.{ok_or};
+ghost use Rattle.statements.specs.declared.statement.Expected.TheVariants.{Statement};
+ghost use Rattle.statements.specs.declared.statement.ParseError.TheVariants.{Expected as expected};
 ghost use Rattle.statements.specs.Keywords.{keyword_of};
+
+use crate::statement::{Expected, ParseError};
 
 #[derive(Clone, Copy, PartialEq, Eq, Debug)]
 pub enum Keyword {
@@ -20,56 +24,27 @@ pub enum Keyword {
     Close,
 }
 
-// Whether a word is this name.
-pub fn is(word: &[u8], name: &str) -> bool
-    ensures { result ≡ bytes_eq word.now name.now }
-{
-    word == name.as_bytes()
-}
+impl TryFrom<&[u8]> for Keyword {
+    type Error = ParseError;
 
-impl Keyword {
-    pub fn named(word: &[u8]) -> Option<Keyword>
-        ensures { result ≡ keyword_of word.now }
-    {
-        if is(word, "method") {
-            return Some(Keyword::Method);
+    ghost try_from_gives = { λ word r. r ≡ ok_or (keyword_of word.now) (expected Statement) };
+
+    fn try_from(word: &[u8]) -> Result<Keyword, ParseError> {
+        match word {
+            b"method" => Ok(Keyword::Method),
+            b"book" => Ok(Keyword::Book),
+            b"open" => Ok(Keyword::Open),
+            b"rates" => Ok(Keyword::Rates),
+            b"line" => Ok(Keyword::Line),
+            b"request" => Ok(Keyword::Request),
+            b"enrol" => Ok(Keyword::Enrol),
+            b"reading" => Ok(Keyword::Reading),
+            b"bill" => Ok(Keyword::Bill),
+            b"final" => Ok(Keyword::Final),
+            b"disburse" => Ok(Keyword::Disburse),
+            b"lapse" => Ok(Keyword::Lapse),
+            b"close" => Ok(Keyword::Close),
+            _ => Err(ParseError::Expected(Expected::Statement)),
         }
-        if is(word, "book") {
-            return Some(Keyword::Book);
-        }
-        if is(word, "open") {
-            return Some(Keyword::Open);
-        }
-        if is(word, "rates") {
-            return Some(Keyword::Rates);
-        }
-        if is(word, "line") {
-            return Some(Keyword::Line);
-        }
-        if is(word, "request") {
-            return Some(Keyword::Request);
-        }
-        if is(word, "enrol") {
-            return Some(Keyword::Enrol);
-        }
-        if is(word, "reading") {
-            return Some(Keyword::Reading);
-        }
-        if is(word, "bill") {
-            return Some(Keyword::Bill);
-        }
-        if is(word, "final") {
-            return Some(Keyword::Final);
-        }
-        if is(word, "disburse") {
-            return Some(Keyword::Disburse);
-        }
-        if is(word, "lapse") {
-            return Some(Keyword::Lapse);
-        }
-        if is(word, "close") {
-            return Some(Keyword::Close);
-        }
-        None
     }
 }

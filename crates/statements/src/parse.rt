@@ -10,24 +10,17 @@ use crate::keyword::Keyword;
 use crate::number::number;
 use crate::reader::Reader;
 use crate::statement::{BookKind, Expected, MethodName, ParseError, Statement};
+use accounts::project::Project;
 use accounts::record::{Kind, Line, Size};
 use std::alloc::Global;
-
-const MOST_U32: u64 = 4_294_967_295;
-
-const MOST_U16: u64 = 65_535;
-
-const MOST_U8: u64 = 255;
 
 fn read_method(line: &mut Reader) -> Result<MethodName, ParseError>
     ensures { result ≡ method_of (words line.old.left.now) }
 {
     let name = line.either(
         Expected::Method,
-        "value-stack",
-        MethodName::ValueStack,
-        "volumetric",
-        MethodName::Volumetric,
+        ("value-stack", MethodName::ValueStack),
+        ("volumetric", MethodName::Volumetric),
     )?;
     line.end()?;
     Ok(name)
@@ -36,7 +29,7 @@ fn read_method(line: &mut Reader) -> Result<MethodName, ParseError>
 fn read_book(line: &mut Reader) -> Result<BookKind, ParseError>
     ensures { result ≡ book_of (words line.old.left.now) }
 {
-    let book = if line.either(Expected::Book, "table", true, "image", false)? {
+    let book = if line.either(Expected::Book, ("table", true), ("image", false))? {
         BookKind::Table {
             places: line.number(Expected::Places, u64::MAX)?,
         }
@@ -49,30 +42,30 @@ fn read_book(line: &mut Reader) -> Result<BookKind, ParseError>
     Ok(book)
 }
 
-fn read_open(line: &mut Reader) -> Result<(u32, bool), ParseError>
+fn read_open(line: &mut Reader) -> Result<Project, ParseError>
     ensures { result ≡ open_of (words line.old.left.now) }
 {
-    let smallest = line.number(Expected::Smallest, MOST_U32)?;
-    let farm = line.either(Expected::Project, "farm", true, "plain", false)?;
+    let smallest = line.number(Expected::Smallest, u64::from(u32::MAX))? as u32;
+    let farm = line.either(Expected::Project, ("farm", true), ("plain", false))?;
     line.end()?;
-    Ok((smallest as u32, farm))
+    Ok(Project { smallest, farm })
 }
 
 fn read_line(line: &mut Reader) -> Result<Line, ParseError>
     ensures { result ≡ line_of (words line.old.left.now) }
 {
     let account = line.number(Expected::Account, u64::MAX)?;
-    let percentage = line.number(Expected::Percentage, MOST_U32)?;
-    let savings = line.number(Expected::Savings, MOST_U16)?;
-    let class = line.number(Expected::Class, MOST_U8)?;
-    let size = line.either(Expected::Size, "S", Size::Small, "L", Size::Large)?;
-    let kind = line.either(Expected::Kind, "M", Kind::Member, "X", Kind::Anchor)?;
+    let percentage = line.number(Expected::Percentage, u64::from(u32::MAX))? as u32;
+    let savings = line.number(Expected::Savings, u64::from(u16::MAX))? as u16;
+    let class = line.number(Expected::Class, u64::from(u8::MAX))? as u8;
+    let size = line.either(Expected::Size, ("S", Size::Small), ("L", Size::Large))?;
+    let kind = line.either(Expected::Kind, ("M", Kind::Member), ("X", Kind::Anchor))?;
     line.end()?;
     Ok(Line {
         account,
-        percentage: percentage as u32,
-        savings: savings as u16,
-        class: class as u8,
+        percentage,
+        savings,
+        class,
         size,
         kind,
     })
@@ -96,17 +89,14 @@ fn read_account_and(line: &mut Reader, what: Expected) -> Result<(u64, u64), Par
     Ok((account, n))
 }
 
+#[tactic(auto, using(crate::proofs::Listing::rates_more, crate::proofs::Listing::rates_wrong, crate::proofs::Listing::rates_end))]
 fn read_rates(line: &mut Reader, heap: Global) -> Result<Vec<u32>, ParseError>
     ensures { Told (λ rates. rates.items) (rates_from [] (words line.old.left.now)) result }
 {
     let mut rates = Vec::new(heap);
     while let Some(word) = line.word() {
-        let Some(rate) = number(word, MOST_U32) else {
-            return Err(ParseError::Expected(Expected::Rate));
-        };
-        if rates.push(rate as u32).is_err() {
-            return Err(ParseError::NoMemory);
-        }
+        let rate = number(word, u64::from(u32::MAX)).ok_or(ParseError::Expected(Expected::Rate))?;
+        rates.push(rate as u32)?;
     }
     Ok(rates)
 }
@@ -131,10 +121,7 @@ fn read_statement(
     match keyword {
         Keyword::Method => Ok(Statement::Method(read_method(line)?)),
         Keyword::Book => Ok(Statement::Book(read_book(line)?)),
-        Keyword::Open => {
-            let (smallest, farm) = read_open(line)?;
-            Ok(Statement::Open { smallest, farm })
-        }
+        Keyword::Open => Ok(Statement::Open(read_open(line)?)),
         Keyword::Rates => Ok(Statement::Rates(read_rates(line, heap)?)),
         Keyword::Line => Ok(Statement::Line(read_line(line)?)),
         Keyword::Request => Ok(Statement::Request(read_request(line, heap)?)),
@@ -169,13 +156,11 @@ fn read_statement(
 fn is_remark(word: &[u8]) -> bool
     ensures { result ≡ is_remark word.now }
 {
-    if word.is_empty() {
-        return false;
-    }
-    word[0] == b'#'
+    word.first() == Some(&b'#')
 }
 
 // The statement of a line; none where the line is blank or a remark, which begins with `#`.
+#[tactic(auto, using(crate::proofs::Saying::asks))]
 pub fn parse(line: &[u8], heap: Global) -> Result<Option<Statement>, ParseError>
     ensures value { Told (option_map meaning) (statement_of line.now) result }
     ensures memory { result ≡ Err NoMemory → asks_memory (words line.now) ≡ true }
@@ -187,11 +172,6 @@ pub fn parse(line: &[u8], heap: Global) -> Result<Option<Statement>, ParseError>
     if is_remark(word) {
         return Ok(None);
     }
-    match Keyword::named(word) {
-        Some(keyword) => match read_statement(keyword, &mut left, heap) {
-            Ok(statement) => Ok(Some(statement)),
-            Err(error) => Err(error),
-        },
-        None => Err(ParseError::Expected(Expected::Statement)),
-    }
+    let keyword = Keyword::try_from(word)?;
+    read_statement(keyword, &mut left, heap).map(Some)
 }

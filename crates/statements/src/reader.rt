@@ -6,14 +6,14 @@ ghost use Rattle.statements.specs.Words.{is_space, in_run, words, first, rest};
 ghost use Rattle.statements.specs.Fields.{number_at, either_at, file_at, end_at};
 ghost use Rattle.statements.specs.Meanings.{Told};
 
-use crate::keyword::is;
 use crate::number::number;
 use crate::statement::{Expected, ParseError};
+use std::str::from_utf8;
 
 fn is_space(b: u8) -> bool
     ensures { result ≡ is_space b }
 {
-    b == b' ' || b == b'\r' || b == b'\n'
+    matches!(b, b' ' | b'\r' | b'\n')
 }
 
 // How many bytes at the front are spaces, or none of them spaces.
@@ -21,12 +21,7 @@ fn run(line: &[u8], spaces: bool) -> usize
     ensures value { result ≡ prefix_len (in_run spaces) line.now }
     ensures bound { result ≤ length line.now }
 {
-    for (i, b) in line.iter().enumerate() {
-        if is_space(*b) != spaces {
-            return i;
-        }
-    }
-    line.len()
+    line.iter().take_while(|b| is_space(**b) == spaces).count()
 }
 
 #[derive(Drop)]
@@ -53,51 +48,36 @@ impl<'a> Reader<'a> {
         ensures left { words self.new.left.now ≡ rest (words self.old.left.now) }
         ensures bound { IfOk result (λ n. n ≤ most) }
     {
-        match self.word() {
-            Some(word) => match number(word, most) {
-                Some(n) => Ok(n),
-                None => Err(ParseError::Expected(what)),
-            },
-            None => Err(ParseError::Expected(what)),
-        }
+        self.word()
+            .and_then(|word| number(word, most))
+            .ok_or(ParseError::Expected(what))
     }
 
     // One of two names, each with what it stands for.
     pub fn either<T: Copy>(
         &mut self,
         what: Expected,
-        name: &str,
-        x: T,
-        other: &str,
-        y: T,
+        one: (&str, T),
+        other: (&str, T),
     ) -> Result<T, ParseError>
-        ensures value { result ≡ either_at what name.now x other.now y (first (words self.old.left.now)) }
+        ensures value { result ≡ either_at what one.entry.0.now one.entry.1 other.entry.0.now other.entry.1 (first (words self.old.left.now)) }
         ensures left { words self.new.left.now ≡ rest (words self.old.left.now) }
     {
-        let Some(word) = self.word() else {
-            return Err(ParseError::Expected(what));
-        };
-        if is(word, name) {
-            return Ok(x);
+        match self.word() {
+            Some(word) if word == one.0.as_bytes() => Ok(one.1),
+            Some(word) if word == other.0.as_bytes() => Ok(other.1),
+            _ => Err(ParseError::Expected(what)),
         }
-        if is(word, other) {
-            return Ok(y);
-        }
-        Err(ParseError::Expected(what))
     }
 
     // A word of text, for a file's name.
+    #[tactic(auto, using(crate::proofs::Listing::file_text, crate::proofs::Listing::no_file))]
     pub fn text(&mut self) -> Result<&'a str, ParseError>
         ensures value { Told (λ x. x.now) (file_at (first (words self.old.left.now))) result }
         ensures left { words self.new.left.now ≡ rest (words self.old.left.now) }
     {
-        let Some(word) = self.word() else {
-            return Err(ParseError::Expected(Expected::File));
-        };
-        match std::str::from_utf8(word) {
-            Ok(name) => Ok(name),
-            Err(_) => Err(ParseError::Expected(Expected::File)),
-        }
+        let word = self.word().ok_or(ParseError::Expected(Expected::File))?;
+        from_utf8(word).map_err(|_| ParseError::Expected(Expected::File))
     }
 
     // That no word is left.

@@ -1,70 +1,33 @@
 // The text of a statement, which reads as the statement again.
-ghost use Rattle.std.specs.Prelude.{◌≡◌, IfOk, string_bytes};
-ghost use Rattle.statements.specs.declared.statement.BookKind.TheVariants.{Table, Image};
-ghost use Rattle.statements.specs.Meanings.{meaning, a_method, a_book, an_opening, some_rates, a_line, a_request, a_reading, a_bill, a_final_bill, a_disbursement};
-ghost use Rattle.statements.specs.Texts.{method_text, project_text, size_text, kind_text, Written};
+ghost use Rattle.std.specs.Prelude.{Some, IfOk, string_bytes};
+ghost use Rattle.statements.specs.Meanings.{meaning, an_opening, some_rates, a_line};
+ghost use Rattle.statements.specs.Texts.{method_text, Written};
 
 use crate::statement::{BookKind, MethodName, Statement};
-use accounts::record::{Kind, Size};
+use accounts::project::Project;
+use accounts::record::Line;
 use std::alloc::{AllocError, Global};
+use std::fmt;
+use std::fmt::Write;
 
-fn method_text(name: MethodName) -> &'static str
-    ensures { result.now ≡ method_text name }
-{
-    match name {
-        MethodName::ValueStack => "value-stack",
-        MethodName::Volumetric => "volumetric",
+impl fmt::Display for MethodName {
+    ghost output = { λ name. Some (method_text name) };
+
+    fn fmt<W: fmt::Write>(&self, f: &mut fmt::Formatter<W>) -> fmt::Result {
+        f.write_str(match self {
+            MethodName::ValueStack => "value-stack",
+            MethodName::Volumetric => "volumetric",
+        })
     }
 }
 
-fn project_text(farm: bool) -> &'static str
-    ensures { result.now ≡ project_text farm }
+#[tactic(auto, using(crate::proofs::Rewriting::reads_again))]
+fn write_open(project: Project, heap: Global) -> Result<String, AllocError>
+    ensures { IfOk result (λ s. Written (an_opening project) (string_bytes s)) }
 {
-    if farm { "farm" } else { "plain" }
-}
-
-fn size_text(size: Size) -> &'static str
-    ensures { result.now ≡ size_text size }
-{
-    match size {
-        Size::Small => "S",
-        Size::Large => "L",
-    }
-}
-
-fn kind_text(kind: Kind) -> &'static str
-    ensures { result.now ≡ kind_text kind }
-{
-    match kind {
-        Kind::Member => "M",
-        Kind::Anchor => "X",
-    }
-}
-
-fn write_method(name: MethodName, heap: Global) -> Result<String, AllocError>
-    ensures { IfOk result (λ s. Written (a_method name) (string_bytes s)) }
-{
-    let name = method_text(name);
-    format!(in heap; "method {name}")
-}
-
-fn write_table(places: u64, heap: Global) -> Result<String, AllocError>
-    ensures { IfOk result (λ s. Written (a_book (Table places)) (string_bytes s)) }
-{
-    format!(in heap; "book table {places}")
-}
-
-fn write_image(bytes: u64, heap: Global) -> Result<String, AllocError>
-    ensures { IfOk result (λ s. Written (a_book (Image bytes)) (string_bytes s)) }
-{
-    format!(in heap; "book image {bytes}")
-}
-
-fn write_open(smallest: u32, farm: bool, heap: Global) -> Result<String, AllocError>
-    ensures { IfOk result (λ s. Written (an_opening smallest farm) (string_bytes s)) }
-{
-    let project = project_text(farm);
-    format!(in heap; "open {smallest} {project}")
+    let smallest = project.smallest;
+    let mark = if project.farm { "farm" } else { "plain" };
+    format!(in heap; "open {smallest} {mark}")
 }
 
 fn write_rates(rates: &[u32], heap: Global) -> Result<String, AllocError>
@@ -72,82 +35,47 @@ fn write_rates(rates: &[u32], heap: Global) -> Result<String, AllocError>
 {
     let mut text = String::from_str(heap, "rates")?;
     for rate in rates {
-        let rate = *rate;
-        let word = format!(in heap; " {rate}")?;
-        text.push_str(word.as_str())?;
+        write!(text, " {rate}")?;
     }
     Ok(text)
 }
 
-fn write_line(
-    account: u64,
-    percentage: u32,
-    savings: u16,
-    class: u8,
-    marks: (Size, Kind),
-    heap: Global,
-) -> Result<String, AllocError>
-    ensures { IfOk result (λ s. Written (a_line (record { account = account; percentage = percentage; savings = savings; class = class; size = marks.0; kind = marks.1 })) (string_bytes s)) }
+#[tactic(auto, using(crate::proofs::Rewriting::reads_again))]
+fn write_line(line: Line, heap: Global) -> Result<String, AllocError>
+    ensures { IfOk result (λ s. Written (a_line line) (string_bytes s)) }
 {
-    let size = size_text(marks.0);
-    let kind = kind_text(marks.1);
+    let Line {
+        account,
+        percentage,
+        savings,
+        class,
+        size,
+        kind,
+    } = line;
     format!(in heap; "line {account} {percentage} {savings} {class} {size} {kind}")
 }
 
-fn write_request(name: &str, heap: Global) -> Result<String, AllocError>
-    ensures { IfOk result (λ s. Written (a_request name.now) (string_bytes s)) }
-{
-    format!(in heap; "request {name}")
-}
-
-fn write_reading(units: u64, heap: Global) -> Result<String, AllocError>
-    ensures { IfOk result (λ s. Written (a_reading units) (string_bytes s)) }
-{
-    format!(in heap; "reading {units}")
-}
-
-fn write_bill(account: u64, cents: u64, heap: Global) -> Result<String, AllocError>
-    ensures { IfOk result (λ s. Written (a_bill account cents) (string_bytes s)) }
-{
-    format!(in heap; "bill {account} {cents}")
-}
-
-fn write_final(account: u64, cents: u64, heap: Global) -> Result<String, AllocError>
-    ensures { IfOk result (λ s. Written (a_final_bill account cents) (string_bytes s)) }
-{
-    format!(in heap; "final {account} {cents}")
-}
-
-fn write_disburse(account: u64, units: u64, heap: Global) -> Result<String, AllocError>
-    ensures { IfOk result (λ s. Written (a_disbursement account units) (string_bytes s)) }
-{
-    format!(in heap; "disburse {account} {units}")
-}
-
 // A statement's line, without its end. The line of a request is read again only where the file's name is one word.
+#[tactic(auto, using(crate::proofs::Rewriting::reads_again))]
 pub fn write(statement: &Statement, heap: Global) -> Result<String, AllocError>
     ensures { IfOk result (λ s. Written (meaning statement.now) (string_bytes s)) }
 {
-    match statement {
-        Statement::Method(name) => write_method(*name, heap),
-        Statement::Book(BookKind::Table { places }) => write_table(*places, heap),
-        Statement::Book(BookKind::Image { bytes }) => write_image(*bytes, heap),
-        Statement::Open { smallest, farm } => write_open(*smallest, *farm, heap),
-        Statement::Rates(rates) => write_rates(rates.as_slice(), heap),
-        Statement::Line(line) => write_line(
-            line.account,
-            line.percentage,
-            line.savings,
-            line.class,
-            (line.size, line.kind),
-            heap,
-        ),
-        Statement::Request(name) => write_request(name.as_str(), heap),
+    match *statement {
+        Statement::Method(name) => format!(in heap; "method {name}"),
+        Statement::Book(BookKind::Table { places }) => format!(in heap; "book table {places}"),
+        Statement::Book(BookKind::Image { bytes }) => format!(in heap; "book image {bytes}"),
+        Statement::Open(project) => write_open(project, heap),
+        Statement::Rates(ref rates) => write_rates(rates.as_slice(), heap),
+        Statement::Line(line) => write_line(line, heap),
+        Statement::Request(ref name) => {
+            let name = name.as_str();
+            format!(in heap; "request {name}")
+        }
         Statement::Enrol => String::from_str(heap, "enrol"),
-        Statement::Reading(units) => write_reading(*units, heap),
-        Statement::Bill { account, cents } => write_bill(*account, *cents, heap),
-        Statement::Final { account, cents } => write_final(*account, *cents, heap),
-        Statement::Disburse { account, units } => write_disburse(*account, *units, heap),
+        Statement::Reading(units) => format!(in heap; "reading {units}"),
+        Statement::Bill { account, cents } => format!(in heap; "bill {account} {cents}"),
+        Statement::Final { account, cents } => format!(in heap; "final {account} {cents}"),
+        Statement::Disburse { account, units } => { format!(in heap; "disburse {account} {units}") }
         Statement::Lapse => String::from_str(heap, "lapse"),
         Statement::Close => String::from_str(heap, "close"),
     }
