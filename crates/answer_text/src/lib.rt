@@ -3,6 +3,5 @@
 
 pub mod answers;
 pub mod books;
-pub mod mistakes;
 pub mod refusal;
 pub mod totals;

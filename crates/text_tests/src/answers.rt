@@ -1,16 +1,50 @@
 // The lines of answers, as they are printed.
+ghost use Rattle.std.specs.Prelude.{Some, codes, refl};
+
 use accounts::record::{Kind, Record, Size, State};
 use answer_text::answers::{OPENED, RATES_SET, answer_line, request_line};
-use answer_text::books::{account_line, cents_line, ledger_line, units_line};
-use answer_text::mistakes::{expected_words, mistake_line};
-use answer_text::refusals::{declined_line, refusal_line};
+use answer_text::books::{account_line, ledger_line};
+use answer_text::refusal::refusal_line;
 use answer_text::totals::{CentTotals, UnitTotals};
 use ledger::call::{Done, Posting, Refusal, Settlement};
 use ledger::phase::Phase;
+use posting::mistake::Mistake;
+use refusals::Numbered;
 use statements::statement::Expected;
 use std::alloc::Global;
+use std::fmt;
 use std::process::Abort;
 use std::test::Fail;
+
+// A refusal of no crate.
+#[derive(Clone, Copy)]
+struct TooFewBytes;
+
+impl fmt::Display for TooFewBytes {
+    ghost output = { λ _. Some (codes "too few bytes") };
+
+    fn fmt<W: fmt::Write>(&self, f: &mut fmt::Formatter<W>) -> fmt::Result {
+        f.write_str("too few bytes")
+    }
+}
+
+impl Numbered for TooFewBytes {
+    ghost number = { λ _. 6 };
+
+    ghost place = { λ _. 0 };
+
+    ghost reason = { λ _. codes "too few bytes" };
+
+    ghost spoken = { λ _. refl };
+
+    fn number(&self) -> u8 {
+        6
+    }
+
+    fn place(&self) -> usize {
+        0
+    }
+}
 
 fn done(rt: &impl Abort, heap: Global, answer: Done, text: &str) -> Result<(), Fail> {
     let line = answer_line("call", Ok(answer), heap)?;
@@ -25,7 +59,7 @@ fn declined(
     why: Refusal,
     text: &str,
 ) -> Result<(), Fail> {
-    let line = declined_line(word, why, heap)?;
+    let line = refusal_line(word, &why, heap)?;
     assert_eq!(rt; line.as_str(), text);
     Ok(())
 }
@@ -126,7 +160,7 @@ fn declined_calls(rt: HostRuntime) -> Result<(), Fail> {
         Refusal::ForeignBook,
         "close: refused 27 place 0: the book is another ledger's",
     )?;
-    let other = refusal_line("book", 6, 0, "too few bytes", heap)?;
+    let other = refusal_line("book", &TooFewBytes, heap)?;
     assert_eq!(rt; other.as_str(), "book: refused 6 place 0: too few bytes");
     let lapse = answer_line("lapse", Err(Refusal::InPeriod), heap)?;
     assert_eq!(rt;
@@ -193,7 +227,7 @@ fn books_and_totals(rt: HostRuntime) -> Result<(), Fail> {
         bank: 20,
         held: 20,
     };
-    let third = units_line(units, heap)?;
+    let third = units.to_string(heap)?;
     assert_eq!(rt;
         third.as_str(),
         "units: read 100 used 50 forfeited 10 bank 20 held 20"
@@ -205,7 +239,7 @@ fn books_and_totals(rt: HostRuntime) -> Result<(), Fail> {
         utility: 112,
         open: 0,
     };
-    let fourth = cents_line(cents, heap)?;
+    let fourth = cents.to_string(heap)?;
     assert_eq!(rt;
         fourth.as_str(),
         "cents: applied 7454 net 745 paid 6597 utility 112 open 0"
@@ -215,7 +249,11 @@ fn books_and_totals(rt: HostRuntime) -> Result<(), Fail> {
 
 #[test]
 fn mistakes(rt: HostRuntime) -> Result<(), Fail> {
-    let line = mistake_line(7, expected_words(Expected::Size), rt.alloc())?;
+    let mistake = Mistake {
+        line: 7,
+        wanted: Expected::Size,
+    };
+    let line = mistake.to_string(rt.alloc())?;
     assert_eq!(rt; line.as_str(), "journal line 7: expected S or L");
     Ok(())
 }
