@@ -1,17 +1,20 @@
 // A journal opens with the method, the book and the opening, in this order, and has none of them later.
-ghost use Rattle.std.specs.Prelude.{◌≡◌, map};
+ghost use Rattle.std.specs.Prelude.{◌≡◌, map, Some};
 ghost use Rattle.statements.specs.Meanings.{meaning};
-ghost use Rattle.posting.specs.Orders.{part, next, ordered, headed, head_of, placed, wanted_text};
+ghost use Rattle.posting.specs.Orders.{part, wanted_in, next, ordered, headed, head_of, placed, wanted_text, fault_text};
 
 use super::entry::Entry;
+use accounts::project::Project;
 use statements::statement::{BookKind, MethodName, Statement};
+use std::error::Error;
+use std::fmt;
 
 // What a statement is to the head of a journal.
 #[derive(Clone, Copy)]
 pub enum Part {
     Method(MethodName),
     Book(BookKind),
-    Open { smallest: u32, farm: bool },
+    Open(Project),
     Later,
 }
 
@@ -28,8 +31,7 @@ pub enum Stage {
 pub struct Head {
     pub method: MethodName,
     pub book: BookKind,
-    pub smallest: u32,
-    pub farm: bool,
+    pub project: Project,
 }
 
 #[derive(Clone, Copy, PartialEq, Eq, Debug)]
@@ -49,16 +51,30 @@ pub struct OrderFault {
 }
 
 // What the line should have had.
-pub fn wanted_words(wanted: Wanted) -> &'static str
-    ensures { result.now ≡ wanted_text wanted }
-{
-    match wanted {
-        Wanted::Method => "the method as the first statement",
-        Wanted::Book => "the book as the second statement",
-        Wanted::Open => "the opening as the third statement",
-        Wanted::Later => "no second method, book or opening",
+impl fmt::Display for Wanted {
+    ghost output = { λ wanted. Some (wanted_text wanted) };
+
+    fn fmt<W: fmt::Write>(&self, f: &mut fmt::Formatter<W>) -> fmt::Result {
+        f.write_str(match self {
+            Wanted::Method => "the method as the first statement",
+            Wanted::Book => "the book as the second statement",
+            Wanted::Open => "the opening as the third statement",
+            Wanted::Later => "no second method, book or opening",
+        })
     }
 }
+
+impl fmt::Display for OrderFault {
+    ghost output = { λ fault. Some (fault_text fault) };
+
+    fn fmt<W: fmt::Write>(&self, f: &mut fmt::Formatter<W>) -> fmt::Result {
+        let line = self.line;
+        let wanted = self.wanted;
+        write!(f, "journal line {line}: expected {wanted}")
+    }
+}
+
+impl Error for OrderFault {}
 
 fn part_of(statement: &Statement) -> Part
     ensures { result ≡ part (meaning statement.now) }
@@ -66,51 +82,57 @@ fn part_of(statement: &Statement) -> Part
     match statement {
         Statement::Method(name) => Part::Method(*name),
         Statement::Book(book) => Part::Book(*book),
-        Statement::Open { smallest, farm } => Part::Open {
+        Statement::Open { smallest, farm } => Part::Open(Project {
             smallest: *smallest,
             farm: *farm,
-        },
+        }),
         _ => Part::Later,
     }
 }
 
 impl Stage {
+    // The statement that has to follow.
+    fn wanted(self) -> Wanted
+        ensures { result ≡ wanted_in self }
+    {
+        match self {
+            Stage::Start => Wanted::Method,
+            Stage::HasMethod(_) => Wanted::Book,
+            Stage::HasBook(_, _) => Wanted::Open,
+            Stage::Opened(_) => Wanted::Later,
+        }
+    }
+
     fn next(self, line: usize, part: Part) -> Result<Stage, OrderFault>
         ensures { result ≡ next self line part }
     {
-        let wanted = match (self, part) {
-            (Stage::Start, Part::Method(method)) => return Ok(Stage::HasMethod(method)),
-            (Stage::HasMethod(method), Part::Book(book)) => {
-                return Ok(Stage::HasBook(method, book));
-            }
-            (Stage::HasBook(method, book), Part::Open { smallest, farm }) => {
-                return Ok(Stage::Opened(Head {
-                    method,
-                    book,
-                    smallest,
-                    farm,
-                }));
-            }
-            (Stage::Opened(_), Part::Later) => return Ok(self),
-            (Stage::Start, _) => Wanted::Method,
-            (Stage::HasMethod(_), _) => Wanted::Book,
-            (Stage::HasBook(_, _), _) => Wanted::Open,
-            (Stage::Opened(_), _) => Wanted::Later,
-        };
-        Err(OrderFault { line, wanted })
+        match (self, part) {
+            (Stage::Start, Part::Method(method)) => Ok(Stage::HasMethod(method)),
+            (Stage::HasMethod(method), Part::Book(book)) => Ok(Stage::HasBook(method, book)),
+            (Stage::HasBook(method, book), Part::Open(project)) => Ok(Stage::Opened(Head {
+                method,
+                book,
+                project,
+            })),
+            (Stage::Opened(_), Part::Later) => Ok(self),
+            _ => Err(OrderFault {
+                line,
+                wanted: self.wanted(),
+            }),
+        }
     }
 
     // The head, where the journal does not end before it does.
     fn head(self, end: usize) -> Result<Head, OrderFault>
         ensures { result ≡ headed end self }
     {
-        let wanted = match self {
-            Stage::Opened(head) => return Ok(head),
-            Stage::Start => Wanted::Method,
-            Stage::HasMethod(_) => Wanted::Book,
-            Stage::HasBook(_, _) => Wanted::Open,
-        };
-        Err(OrderFault { line: end, wanted })
+        match self {
+            Stage::Opened(head) => Ok(head),
+            _ => Err(OrderFault {
+                line: end,
+                wanted: self.wanted(),
+            }),
+        }
     }
 }
 
