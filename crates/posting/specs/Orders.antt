@@ -1,10 +1,10 @@
 -- The head of a journal: the method, the book and the opening are its first three statements, and stand nowhere else.
-use Rattle.std.specs.Prelude.{ℕ, List, [], ◌∷◌, ◌++◌, Ok, Err, codes, decimal, Result}
+use Rattle.std.specs.Prelude.{ℕ, List, [], ◌∷◌, Ok, Err, codes, Result}
 use Rattle.statements.specs.Meanings.{Meaning, meaning}
 use Rattle.statements.specs.Meanings as said
 use Rattle.posting.specs.declared.entry.Entry.{Entry}
+use Rattle.posting.specs.declared.mistake.Mistake.{Mistake}
 use Rattle.posting.specs.declared.order.Head.{Head}
-use Rattle.posting.specs.declared.order.OrderFault.{OrderFault}
 use Rattle.posting.specs.declared.order.Part.{Part}
 use Rattle.posting.specs.declared.order.Part.TheVariants as part_is
 use Rattle.posting.specs.declared.order.Stage.{Stage}
@@ -34,10 +34,6 @@ wanted_text want.Book = codes "the book as the second statement"
 wanted_text want.Open = codes "the opening as the third statement"
 wanted_text want.Later = codes "no second method, book or opening"
 
--- `journal line 7: expected ..`, with lines counted from 1
-abbrev pub fault_text : OrderFault → List ℕ
-fault_text f = codes "journal line " ++ (decimal f.line ++ (codes ": expected " ++ wanted_text f.wanted))
-
 -- what has to follow
 abbrev pub wanted_in : Stage → Wanted
 wanted_in Start = want.Method
@@ -45,10 +41,10 @@ wanted_in (HasMethod _) = want.Book
 wanted_in (HasBook _ _) = want.Open
 wanted_in (Opened _) = want.Later
 
-abbrev pub wanted_at : ℕ → Wanted → OrderFault
+abbrev pub wanted_at : ℕ → Wanted → Mistake Wanted
 wanted_at line w = record { line = line; wanted = w }
 
-abbrev pub next : Stage → ℕ → Part → Result Stage OrderFault
+abbrev pub next : Stage → ℕ → Part → Result Stage (Mistake Wanted)
 next Start line (part_is.Method m) = Ok (HasMethod m)
 next Start line (part_is.Book _) = Err (wanted_at line want.Method)
 next Start line (part_is.Open _) = Err (wanted_at line want.Method)
@@ -67,7 +63,7 @@ next (Opened h) line (part_is.Book _) = Err (wanted_at line want.Later)
 next (Opened h) line (part_is.Open _) = Err (wanted_at line want.Later)
 
 -- a journal that ends too early lacks a statement at its end
-abbrev pub headed : ℕ → Stage → Result Head OrderFault
+abbrev pub headed : ℕ → Stage → Result Head (Mistake Wanted)
 headed end Start = Err (wanted_at end want.Method)
 headed end (HasMethod _) = Err (wanted_at end want.Book)
 headed end (HasBook _ _) = Err (wanted_at end want.Open)
@@ -82,9 +78,9 @@ abbrev pub and_then : {A B E : Type 0} → Result A E → (A → Result B E) →
 and_then (Ok a) f = f a
 and_then (Err e) f = Err e
 
-abbrev pub ordered : ℕ → List (ℕ × Part) → Stage → Result Head OrderFault
+abbrev pub ordered : ℕ → List (ℕ × Part) → Stage → Result Head (Mistake Wanted)
 ordered end [] stage = headed end stage
 ordered end (p ∷ ps) stage = and_then (next stage p.0 p.1) (ordered end ps)
 
-abbrev pub head_of : ℕ → List (ℕ × Part) → Result Head OrderFault
+abbrev pub head_of : ℕ → List (ℕ × Part) → Result Head (Mistake Wanted)
 head_of end ps = ordered end ps Start

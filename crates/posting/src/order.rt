@@ -1,12 +1,12 @@
 // A journal opens with the method, the book and the opening, in this order, and has none of them later.
 ghost use Rattle.std.specs.Prelude.{◌≡◌, map, Some};
 ghost use Rattle.statements.specs.Meanings.{meaning};
-ghost use Rattle.posting.specs.Orders.{part, wanted_in, next, ordered, headed, head_of, placed, wanted_text, fault_text};
+ghost use Rattle.posting.specs.Orders.{part, wanted_in, next, ordered, headed, head_of, placed, wanted_text};
 
 use super::entry::Entry;
+use super::mistake::Mistake;
 use accounts::project::Project;
 use statements::statement::{BookKind, MethodName, Statement};
-use std::error::Error;
 use std::fmt;
 
 // What a statement is to the head of a journal.
@@ -34,6 +34,7 @@ pub struct Head {
     pub project: Project,
 }
 
+// What a line out of order should have had.
 #[derive(Clone, Copy, PartialEq, Eq, Debug)]
 pub enum Wanted {
     Method,
@@ -43,14 +44,6 @@ pub enum Wanted {
     Later,
 }
 
-#[derive(Clone, Copy, PartialEq, Eq, Debug)]
-pub struct OrderFault {
-    // the line of the text, from 1
-    pub line: usize,
-    pub wanted: Wanted,
-}
-
-// What the line should have had.
 impl fmt::Display for Wanted {
     ghost output = { λ wanted. Some (wanted_text wanted) };
 
@@ -63,18 +56,6 @@ impl fmt::Display for Wanted {
         })
     }
 }
-
-impl fmt::Display for OrderFault {
-    ghost output = { λ fault. Some (fault_text fault) };
-
-    fn fmt<W: fmt::Write>(&self, f: &mut fmt::Formatter<W>) -> fmt::Result {
-        let line = self.line;
-        let wanted = self.wanted;
-        write!(f, "journal line {line}: expected {wanted}")
-    }
-}
-
-impl Error for OrderFault {}
 
 fn part_of(statement: &Statement) -> Part
     ensures { result ≡ part (meaning statement.now) }
@@ -103,7 +84,7 @@ impl Stage {
         }
     }
 
-    fn next(self, line: usize, part: Part) -> Result<Stage, OrderFault>
+    fn next(self, line: usize, part: Part) -> Result<Stage, Mistake<Wanted>>
         ensures { result ≡ next self line part }
     {
         match (self, part) {
@@ -115,7 +96,7 @@ impl Stage {
                 project,
             })),
             (Stage::Opened(_), Part::Later) => Ok(self),
-            _ => Err(OrderFault {
+            _ => Err(Mistake {
                 line,
                 wanted: self.wanted(),
             }),
@@ -123,12 +104,12 @@ impl Stage {
     }
 
     // The head, where the journal does not end before it does.
-    fn head(self, end: usize) -> Result<Head, OrderFault>
+    fn head(self, end: usize) -> Result<Head, Mistake<Wanted>>
         ensures { result ≡ headed end self }
     {
         match self {
             Stage::Opened(head) => Ok(head),
-            _ => Err(OrderFault {
+            _ => Err(Mistake {
                 line: end,
                 wanted: self.wanted(),
             }),
@@ -137,7 +118,7 @@ impl Stage {
 }
 
 // The head of a journal whose text ends before the line `end`, or the first line that is out of order.
-pub fn read_head(entries: &[Entry], end: usize) -> Result<Head, OrderFault>
+pub fn read_head(entries: &[Entry], end: usize) -> Result<Head, Mistake<Wanted>>
     ensures { result ≡ head_of end (map placed entries.now) }
 {
     let mut stage = Stage::Start;
