@@ -1,3 +1,1 @@
-mod Turns
 mod Summing
-mod Reading

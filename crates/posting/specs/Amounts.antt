@@ -1,5 +1,5 @@
 -- What each call with its answer adds to a total.
-use Rattle.std.specs.Prelude.{ℕ, ◌+◌, List, [], ◌∷◌, Ok, Err, Result}
+use Rattle.std.specs.Prelude.{ℕ, List, Ok, Err, Result, sum_by, zip}
 use Rattle.ledger.specs.declared.call.Call.{Call}
 use Rattle.ledger.specs.declared.call.Call.TheVariants as call
 use Rattle.ledger.specs.declared.call.Done.{Done}
@@ -69,7 +69,5 @@ amount a c (Ok (done.Lapsed forfeited)) = of_lapse a forfeited
 amount a c (Ok (done.Closed s)) = of_close a s
 
 -- calls in order with their answers
-unfoldable pub sum_of : {M : Type 0} → Amount → List (Call M) → List (Result Done Refusal) → ℕ
-sum_of a [] said = 0
-sum_of a (c ∷ cs) [] = 0
-sum_of a (c ∷ cs) (r ∷ rs) = amount a c r + sum_of a cs rs
+abbrev pub sum_of : {M : Type 0} → Amount → List (Call M) → List (Result Done Refusal) → ℕ
+sum_of a cs rs = sum_by (λ p. amount a p.0 p.1) (zip cs rs)

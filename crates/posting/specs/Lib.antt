@@ -1,4 +1,5 @@
 pub mod Deeds
 pub mod Plans
+pub mod Mistakes
 pub mod Orders
 pub mod Amounts

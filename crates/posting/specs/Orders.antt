@@ -3,8 +3,8 @@ use Rattle.std.specs.Prelude.{ℕ, List, [], ◌∷◌, Ok, Err, codes, Result}
 use Rattle.statements.specs.Meanings.{Meaning, meaning}
 use Rattle.statements.specs.Meanings as said
 use Rattle.posting.specs.declared.entry.Entry.{Entry}
+use Rattle.posting.specs.declared.mistake.Mistake.{Mistake}
 use Rattle.posting.specs.declared.order.Head.{Head}
-use Rattle.posting.specs.declared.order.OrderFault.{OrderFault}
 use Rattle.posting.specs.declared.order.Part.{Part}
 use Rattle.posting.specs.declared.order.Part.TheVariants as part_is
 use Rattle.posting.specs.declared.order.Stage.{Stage}
@@ -15,7 +15,7 @@ use Rattle.posting.specs.declared.order.Wanted.TheVariants as want
 abbrev pub part : Meaning → Part
 part (said.a_method name) = part_is.Method name
 part (said.a_book book) = part_is.Book book
-part (said.an_opening smallest farm) = part_is.Open smallest farm
+part (said.an_opening smallest farm) = part_is.Open (record { smallest = smallest; farm = farm })
 part (said.some_rates _) = part_is.Later
 part (said.a_line _) = part_is.Later
 part (said.a_request _) = part_is.Later
@@ -34,29 +34,36 @@ wanted_text want.Book = codes "the book as the second statement"
 wanted_text want.Open = codes "the opening as the third statement"
 wanted_text want.Later = codes "no second method, book or opening"
 
-abbrev pub wanted_at : ℕ → Wanted → OrderFault
+-- what has to follow
+abbrev pub wanted_in : Stage → Wanted
+wanted_in Start = want.Method
+wanted_in (HasMethod _) = want.Book
+wanted_in (HasBook _ _) = want.Open
+wanted_in (Opened _) = want.Later
+
+abbrev pub wanted_at : ℕ → Wanted → Mistake Wanted
 wanted_at line w = record { line = line; wanted = w }
 
-abbrev pub next : Stage → ℕ → Part → Result Stage OrderFault
+abbrev pub next : Stage → ℕ → Part → Result Stage (Mistake Wanted)
 next Start line (part_is.Method m) = Ok (HasMethod m)
 next Start line (part_is.Book _) = Err (wanted_at line want.Method)
-next Start line (part_is.Open _ _) = Err (wanted_at line want.Method)
+next Start line (part_is.Open _) = Err (wanted_at line want.Method)
 next Start line part_is.Later = Err (wanted_at line want.Method)
 next (HasMethod m) line (part_is.Book b) = Ok (HasBook m b)
 next (HasMethod m) line (part_is.Method _) = Err (wanted_at line want.Book)
-next (HasMethod m) line (part_is.Open _ _) = Err (wanted_at line want.Book)
+next (HasMethod m) line (part_is.Open _) = Err (wanted_at line want.Book)
 next (HasMethod m) line part_is.Later = Err (wanted_at line want.Book)
-next (HasBook m b) line (part_is.Open s f) = Ok (Opened (record { method = m; book = b; smallest = s; farm = f }))
+next (HasBook m b) line (part_is.Open p) = Ok (Opened (record { method = m; book = b; project = p }))
 next (HasBook m b) line (part_is.Method _) = Err (wanted_at line want.Open)
 next (HasBook m b) line (part_is.Book _) = Err (wanted_at line want.Open)
 next (HasBook m b) line part_is.Later = Err (wanted_at line want.Open)
 next (Opened h) line part_is.Later = Ok (Opened h)
 next (Opened h) line (part_is.Method _) = Err (wanted_at line want.Later)
 next (Opened h) line (part_is.Book _) = Err (wanted_at line want.Later)
-next (Opened h) line (part_is.Open _ _) = Err (wanted_at line want.Later)
+next (Opened h) line (part_is.Open _) = Err (wanted_at line want.Later)
 
 -- a journal that ends too early lacks a statement at its end
-abbrev pub headed : ℕ → Stage → Result Head OrderFault
+abbrev pub headed : ℕ → Stage → Result Head (Mistake Wanted)
 headed end Start = Err (wanted_at end want.Method)
 headed end (HasMethod _) = Err (wanted_at end want.Book)
 headed end (HasBook _ _) = Err (wanted_at end want.Open)
@@ -71,9 +78,9 @@ abbrev pub and_then : {A B E : Type 0} → Result A E → (A → Result B E) →
 and_then (Ok a) f = f a
 and_then (Err e) f = Err e
 
-unfoldable pub ordered : ℕ → List (ℕ × Part) → Stage → Result Head OrderFault
+abbrev pub ordered : ℕ → List (ℕ × Part) → Stage → Result Head (Mistake Wanted)
 ordered end [] stage = headed end stage
 ordered end (p ∷ ps) stage = and_then (next stage p.0 p.1) (ordered end ps)
 
-abbrev pub head_of : ℕ → List (ℕ × Part) → Result Head OrderFault
+abbrev pub head_of : ℕ → List (ℕ × Part) → Result Head (Mistake Wanted)
 head_of end ps = ordered end ps Start

@@ -1,6 +1,5 @@
 -- The calls and the notes of a journal, statement by statement.
-use Rattle.std.specs.Prelude.{ℕ, List, [], ◌∷◌, ◌++◌, map, replicate, Ok, Err, vec_items, Result, Vec}
-use Rattle.std.specs.declared.alloc.Global.{Global}
+use Rattle.std.specs.Prelude.{ℕ, List, [], ◌∷◌, ◌++◌, map, replicate, Ok, Err, vec_items, Result, fold}
 use Rattle.accounts.specs.declared.record.Line.{Line}
 use Rattle.crediting.specs.Refusals.{judged}
 use Rattle.crediting.specs.declared.rates.RatesRefusal.{RatesRefusal}
@@ -64,11 +63,6 @@ abbrev pub lines_if : Result (List Line) RequestRefusal → List Line → List L
 lines_if (Ok new) old = new
 lines_if (Err _) old = old
 
--- lines in memory as a list
-abbrev pub listed : Result (Vec Line Global) RequestRefusal → Result (List Line) RequestRefusal
-listed (Ok lines) = Ok (vec_items lines)
-listed (Err why) = Err why
-
 -- a file has at most 1,024 lines
 abbrev pub read_file : State → List ℕ → State
 read_file s file =
@@ -113,6 +107,5 @@ module _ (worths : List ℕ → ℕ → ℕ → ℕ) where
   abbrev pub step : State → Meaning × List ℕ → State
   step s e = after s e.0 e.1
 
-  unfoldable pub planned : State → List (Meaning × List ℕ) → State
-  planned s [] = s
-  planned s (e ∷ es) = planned (step s e) es
+  abbrev pub planned : State → List (Meaning × List ℕ) → State
+  planned s es = fold step s es

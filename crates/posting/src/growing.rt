@@ -1,48 +1,22 @@
 // A plan grows by one statement after another.
 ghost use Rattle.std.specs.Prelude.{◌≡◌, map, IfOk, OnOk};
-ghost use Rattle.requests.specs.Meaning.{reading};
 ghost use Rattle.posting.specs.Deeds.{deed};
-ghost use Rattle.posting.specs.Plans.{seen, begun, listed, noted, called, with_rates, more_line, read_file, enrolled, step, planned, told};
+ghost use Rattle.posting.specs.Plans.{seen, begun, noted, called, with_rates, more_line, read_file, enrolled, step, planned, told};
 
 use super::entry::Entry;
 use super::note::Note;
 use super::plan::Plan;
 use super::rated::Rated;
-use accounts::record::{Kind, Line, Size};
+use accounts::record::Line;
 use crediting::method::CreditMethod;
 use crediting::volumetric::Volumetric;
 use ledger::call::Call;
-use requests::fault::RequestRefusal;
 use requests::reader::read;
 use statements::statement::Statement;
 use std::alloc::{AllocError, Global};
 use std::mem;
 
 const MOST_LINES: usize = 1_024;
-
-const BLANK: Line = Line {
-    account: 0,
-    percentage: 0,
-    savings: 0,
-    class: 0,
-    size: Size::Small,
-    kind: Kind::Member,
-};
-
-// The lines of a request file, or why it is refused.
-fn request_lines(file: &[u8], heap: Global) -> Result<Result<Vec<Line>, RequestRefusal>, AllocError>
-    ensures { IfOk result (λ x. listed x ≡ reading file.now 1024) }
-{
-    let mut table = [BLANK; MOST_LINES];
-    match read(file, &mut table) {
-        Ok(count) => {
-            let mut lines = Vec::from_slice(heap, &table)?;
-            lines.truncate(count);
-            Ok(Ok(lines))
-        }
-        Err(why) => Ok(Err(why)),
-    }
-}
 
 impl<M: Rated + Drop> Plan<M> {
     // No call, no line in hand, rate 1 for every class.
@@ -90,14 +64,12 @@ impl<M: Rated + Drop> Plan<M> {
     fn read_request(&mut self, file: &[u8], heap: Global) -> Result<(), AllocError>
         ensures { OnOk result (seen M.CreditMethod.worth self.new ≡ read_file (seen M.CreditMethod.worth self.old) file.now) }
     {
-        match request_lines(file, heap)? {
-            Ok(lines) => {
-                let count = lines.len();
-                self.lines = lines;
-                self.note(Note::Request(Ok(count)))
-            }
-            Err(why) => self.note(Note::Request(Err(why))),
+        let mut table = [Line::default(); MOST_LINES];
+        let read = read(file, &mut table);
+        if let Ok(lines) = read {
+            self.lines = Vec::from_slice(heap, &table[..lines])?;
         }
+        self.note(Note::Request(read))
     }
 
     fn enrol(&mut self, heap: Global) -> Result<(), AllocError>

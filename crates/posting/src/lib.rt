@@ -3,6 +3,7 @@
 
 pub mod entry;
 pub mod growing;
+pub mod mistake;
 pub mod note;
 pub mod order;
 pub mod plan;

@@ -2,7 +2,7 @@
 use crediting::rates::RatesRefusal;
 use requests::fault::RequestRefusal;
 
-#[derive(Clone, Copy, Debug)]
+#[derive(Clone, Copy, PartialEq, Eq, Debug)]
 pub enum Note {
     Rates(Result<(), RatesRefusal>),
     // how many lines the file has

@@ -1,17 +1,20 @@
 // A journal opens with the method, the book and the opening, in this order, and has none of them later.
-ghost use Rattle.std.specs.Prelude.{◌≡◌, map};
+ghost use Rattle.std.specs.Prelude.{◌≡◌, map, Some};
 ghost use Rattle.statements.specs.Meanings.{meaning};
-ghost use Rattle.posting.specs.Orders.{part, next, ordered, headed, head_of, placed, wanted_text};
+ghost use Rattle.posting.specs.Orders.{part, wanted_in, next, ordered, headed, head_of, placed, wanted_text};
 
 use super::entry::Entry;
+use super::mistake::Mistake;
+use accounts::project::Project;
 use statements::statement::{BookKind, MethodName, Statement};
+use std::fmt;
 
 // What a statement is to the head of a journal.
 #[derive(Clone, Copy)]
 pub enum Part {
     Method(MethodName),
     Book(BookKind),
-    Open { smallest: u32, farm: bool },
+    Open(Project),
     Later,
 }
 
@@ -28,10 +31,10 @@ pub enum Stage {
 pub struct Head {
     pub method: MethodName,
     pub book: BookKind,
-    pub smallest: u32,
-    pub farm: bool,
+    pub project: Project,
 }
 
+// What a line out of order should have had.
 #[derive(Clone, Copy, PartialEq, Eq, Debug)]
 pub enum Wanted {
     Method,
@@ -41,22 +44,16 @@ pub enum Wanted {
     Later,
 }
 
-#[derive(Clone, Copy, PartialEq, Eq, Debug)]
-pub struct OrderFault {
-    // the line of the text, from 1
-    pub line: usize,
-    pub wanted: Wanted,
-}
+impl fmt::Display for Wanted {
+    ghost output = { λ wanted. Some (wanted_text wanted) };
 
-// What the line should have had.
-pub fn wanted_words(wanted: Wanted) -> &'static str
-    ensures { result.now ≡ wanted_text wanted }
-{
-    match wanted {
-        Wanted::Method => "the method as the first statement",
-        Wanted::Book => "the book as the second statement",
-        Wanted::Open => "the opening as the third statement",
-        Wanted::Later => "no second method, book or opening",
+    fn fmt<W: fmt::Write>(&self, f: &mut fmt::Formatter<W>) -> fmt::Result {
+        f.write_str(match self {
+            Wanted::Method => "the method as the first statement",
+            Wanted::Book => "the book as the second statement",
+            Wanted::Open => "the opening as the third statement",
+            Wanted::Later => "no second method, book or opening",
+        })
     }
 }
 
@@ -66,56 +63,62 @@ fn part_of(statement: &Statement) -> Part
     match statement {
         Statement::Method(name) => Part::Method(*name),
         Statement::Book(book) => Part::Book(*book),
-        Statement::Open { smallest, farm } => Part::Open {
+        Statement::Open { smallest, farm } => Part::Open(Project {
             smallest: *smallest,
             farm: *farm,
-        },
+        }),
         _ => Part::Later,
     }
 }
 
 impl Stage {
-    fn next(self, line: usize, part: Part) -> Result<Stage, OrderFault>
-        ensures { result ≡ next self line part }
+    // The statement that has to follow.
+    fn wanted(self) -> Wanted
+        ensures { result ≡ wanted_in self }
     {
-        let wanted = match (self, part) {
-            (Stage::Start, Part::Method(method)) => return Ok(Stage::HasMethod(method)),
-            (Stage::HasMethod(method), Part::Book(book)) => {
-                return Ok(Stage::HasBook(method, book));
-            }
-            (Stage::HasBook(method, book), Part::Open { smallest, farm }) => {
-                return Ok(Stage::Opened(Head {
-                    method,
-                    book,
-                    smallest,
-                    farm,
-                }));
-            }
-            (Stage::Opened(_), Part::Later) => return Ok(self),
-            (Stage::Start, _) => Wanted::Method,
-            (Stage::HasMethod(_), _) => Wanted::Book,
-            (Stage::HasBook(_, _), _) => Wanted::Open,
-            (Stage::Opened(_), _) => Wanted::Later,
-        };
-        Err(OrderFault { line, wanted })
-    }
-
-    // The head, where the journal does not end before it does.
-    fn head(self, end: usize) -> Result<Head, OrderFault>
-        ensures { result ≡ headed end self }
-    {
-        let wanted = match self {
-            Stage::Opened(head) => return Ok(head),
+        match self {
             Stage::Start => Wanted::Method,
             Stage::HasMethod(_) => Wanted::Book,
             Stage::HasBook(_, _) => Wanted::Open,
-        };
-        Err(OrderFault { line: end, wanted })
+            Stage::Opened(_) => Wanted::Later,
+        }
+    }
+
+    fn next(self, line: usize, part: Part) -> Result<Stage, Mistake<Wanted>>
+        ensures { result ≡ next self line part }
+    {
+        match (self, part) {
+            (Stage::Start, Part::Method(method)) => Ok(Stage::HasMethod(method)),
+            (Stage::HasMethod(method), Part::Book(book)) => Ok(Stage::HasBook(method, book)),
+            (Stage::HasBook(method, book), Part::Open(project)) => Ok(Stage::Opened(Head {
+                method,
+                book,
+                project,
+            })),
+            (Stage::Opened(_), Part::Later) => Ok(self),
+            _ => Err(Mistake {
+                line,
+                wanted: self.wanted(),
+            }),
+        }
+    }
+
+    // The head, where the journal does not end before it does.
+    fn head(self, end: usize) -> Result<Head, Mistake<Wanted>>
+        ensures { result ≡ headed end self }
+    {
+        match self {
+            Stage::Opened(head) => Ok(head),
+            _ => Err(Mistake {
+                line: end,
+                wanted: self.wanted(),
+            }),
+        }
     }
 }
 
 // The head of a journal whose text ends before the line `end`, or the first line that is out of order.
-pub fn read_head(entries: &[Entry], end: usize) -> Result<Head, OrderFault>
+pub fn read_head(entries: &[Entry], end: usize) -> Result<Head, Mistake<Wanted>>
     ensures { result ≡ head_of end (map placed entries.now) }
 {
     let mut stage = Stage::Start;

@@ -1,12 +1,12 @@
 // Sums over calls and their answers.
-ghost use Rattle.std.specs.Prelude.{◌≡◌, ◌+◌, ◌<◌, ◌≤◌, length, drop};
+ghost use Rattle.std.specs.Prelude.{◌≡◌};
 ghost use Rattle.ledger.specs.Sums.{total};
 ghost use Rattle.posting.specs.Amounts.{of_bill, of_close, of_lapse, of_call, amount, sum_of};
 
 use accounts::book::AccountBook;
 use ledger::call::{Call, Done, Posting, Refusal, Settlement};
 
-// What is summed: units read, used and forfeited, and cents applied, net, paid to the host and kept by the utility.
+// What is summed, as one value and not as seven closures that would each match the answers: units read, used and forfeited, and cents applied, net, paid to the host and kept by the utility.
 #[derive(Clone, Copy, PartialEq, Eq, Debug)]
 pub enum Amount {
     Read,
@@ -77,52 +77,27 @@ impl Amount {
     }
 }
 
-// What the call and the answer at a place add.
-fn amount_at<M>(
-    amount: Amount,
-    calls: &[Call<M>],
-    answers: &[Result<Done, Refusal>],
-    place: usize,
-) -> u64
-    requires call { place < length calls.now }
-    requires answer { place < length answers.now }
-    ensures step { sum_of amount (drop place calls.now) (drop place answers.now) ≡ result + sum_of amount (drop (place + 1) calls.now) (drop (place + 1) answers.now) }
-    ensures bound { result ≤ 18446744073709551615 }
-{
-    let call = &calls[place];
-    let answer = &answers[place];
-    amount.of(call, answer)
-}
-
 // The sum of an amount over calls with their answers, in order.
 pub fn sum<M>(amount: Amount, calls: &[Call<M>], answers: &[Result<Done, Refusal>]) -> u128
     ensures { result ≡ sum_of amount calls.now answers.now }
 {
-    let mut sum = 0u128;
-    for place in 0..calls.len().min(answers.len()) {
-        sum += u128::from(amount_at(amount, calls, answers, place));
-    }
-    sum
-}
-
-// The units held in the record at a place.
-fn held_at<B: AccountBook>(book: &B, place: usize) -> u64
-    ensures step { B.sound book.now → total (λ x. x.held) (drop place (B.contents book.now).records) ≡ result + total (λ x. x.held) (drop (place + 1) (B.contents book.now).records) }
-    ensures bound { result ≤ 18446744073709551615 }
-{
-    match book.get(place) {
-        Some(holder) => holder.held,
-        None => 0,
-    }
+    calls
+        .iter()
+        .zip(answers)
+        .map(|(call, answer)| u128::from(amount.of(call, answer)))
+        .sum()
 }
 
 // The units held in all records.
+#[tactic(auto, using(crate::proofs::Summing::held_more))]
 pub fn held<B: AccountBook>(book: &B) -> u128
     ensures { B.sound book.now → result ≡ total (λ x. x.held) (B.contents book.now).records }
 {
     let mut units = 0u128;
     for place in 0..book.count() {
-        units += u128::from(held_at(book, place));
+        if let Some(holder) = book.get(place) {
+            units += u128::from(holder.held);
+        }
     }
     units
 }
