@@ -1,5 +1,5 @@
 -- A loop over the records of a reading.
-use Rattle.std.proofs.Common.{◌≡◌, ℕ, zero, suc, ◌+◌, ◌<◌, ◌≤◌, Bool, true, false, ◌||◌, ltb, List, [], ◌∷◌, length, drop, Some, sym, refl, ap, ◌∙◌, subst, mul-le-mul_left, arith}
+use Rattle.std.proofs.Common.{◌≡◌, ℕ, zero, suc, ◌+◌, ◌*◌, ◌<◌, ◌≤◌, Bool, true, false, ◌||◌, ltb, List, [], ◌∷◌, length, drop, Some, sym, refl, ap, ◌∙◌, subst, mul-add, mul-le-mul_left, arith}
 use Rattle.std.proofs.lemmas.List.{drop_all}
 use Rattle.std.proofs.lemmas.Bool.{lt-ltb, le-ltb, or_left, or_right, or_from, or_parts}
 use Rattle.std.proofs.lemmas.Bool.Decides.{nat_tests}
@@ -14,6 +14,10 @@ use Rattle.ledger.specs.Sums.{total}
 -- a share is no more than the reading
 pub share_within : (units percentage : ℕ) → percentage ≤ 100000 → share units percentage ≤ units
 share_within units percentage h = omega (arith, mul-le-mul_left units h)
+
+-- shares rounded down are within their percentages of the reading
+pub shared_within : (units percentages shared percentage gain : ℕ) → gain ≡ share units percentage → shared * 100000 ≤ units * percentages → (shared + gain) * 100000 ≤ units * (percentages + percentage)
+shared_within units percentages shared percentage gain e h = omega (arith, mul-add units percentages percentage)
 
 -- what a place has is the first of what is left from it on
 pub drop_nth : {X : Type 0} (xs : List X) (i : ℕ) (x : X) → slice_get xs i ≡ Some x → drop i xs ≡ x ∷ drop (i + 1) xs

@@ -6,7 +6,7 @@ ghost use Rattle.ledger.specs.Lines.{line_accounts, repeated_from, large_percent
 ghost use Rattle.ledger.specs.Records.{record_of};
 ghost use Rattle.ledger.specs.Sums.{total};
 
-use super::holders::located;
+use super::entries::located;
 use accounts::book::AccountBook;
 use accounts::record::{Line, Size, State};
 
@@ -58,7 +58,10 @@ pub(crate) fn percentages(lines: &[Line]) -> Sums
 {
     Sums {
         all: lines.iter().map(|line| u64::from(line.percentage)).sum(),
-        large: lines.iter().map(|line| u64::from(large_percentage(line))).sum(),
+        large: lines
+            .iter()
+            .map(|line| u64::from(large_percentage(line)))
+            .sum(),
     }
 }
 
@@ -66,9 +69,7 @@ pub(crate) fn percentages(lines: &[Line]) -> Sums
 pub(crate) fn first_closed<B: AccountBook>(book: &B, lines: &[Line]) -> Option<usize>
     ensures { B.sound book.now → result ≡ position_from (names_closed (B.contents book.now).records) 0 lines.now }
 {
-    lines
-        .iter()
-        .position(|line| is_closed(book, line.account))
+    lines.iter().position(|line| is_closed(book, line.account))
 }
 
 // Whether an account is closed.
@@ -78,7 +79,7 @@ fn is_closed<B: AccountBook>(book: &B, account: u64) -> bool
     let Some(place) = book.search(account) else {
         return false;
     };
-    located(book, account, place).is_some_and(|holder| holder.state == State::Closed)
+    located(book, account, place).is_some_and(|entry| entry.holder.state == State::Closed)
 }
 
 // How many lines are of accounts that the book lacks.
