@@ -2,6 +2,7 @@
 use Rattle.std.proofs.Common.{◌≡◌, ℕ, ◌+◌, ◌-◌, ◌≤◌, false, ◌||◌, eqb, ltb, leb, List, [], ◌∷◌, map, Some, None, Option, refl, ap, ◌∙◌, mul-le-mul_left, arith}
 use Rattle.std.proofs.lemmas.List.{length-map}
 use Rattle.std.proofs.lemmas.Bool.{cond-false, cond-true, eq-eqb, le-ltb, ltb-false, or_from, or_parts}
+use Rattle.std.specs.List.{list_any}
 use Rattle.accounts.specs.declared.record.Record.{Record}
 use Rattle.ledger.specs.declared.call.Call.{Call}
 use Rattle.ledger.specs.declared.call.Call.TheVariants as call
@@ -12,7 +13,7 @@ use Rattle.ledger.specs.Records.{gaining, holding, is_closed, put, record_of}
 use Rattle.ledger.specs.Rules.{share}
 use Rattle.ledger.specs.States.{State, Outcome, performed}
 use Rattle.ledger.specs.Steps.{disburse, disburse_to, foreign_to_reading, reading, shares}
-use Rattle.ledger.specs.Sums.{some, total}
+use Rattle.ledger.specs.Sums.{total}
 use Rattle.journal.specs.Histories as history
 use Rattle.journal.specs.Histories.{History, class_of, disbursed_to, given, percentage_of, shares_of, used_by}
 use Rattle.ledger.specs.Phases.{fees_in}
@@ -22,7 +23,7 @@ use Rattle.journal.proofs.Ties.{found_tie, gain_tie, held_tie, put_ties, tied_sa
 use Rattle.ledger.proofs.Totals.{shares_within, total_map, total_plus}
 
 -- no element passes what all are together
-none_pass : {X : Type 0} (f : X → ℕ) (xs : List X) (n : ℕ) → total f xs ≤ n → some (λ x. ltb n (f x)) xs ≡ false
+none_pass : {X : Type 0} (f : X → ℕ) (xs : List X) (n : ℕ) → total f xs ≤ n → list_any (λ x. ltb n (f x)) xs ≡ false
 none_pass f [] n h = refl
 none_pass f (x ∷ xs) n h = or_from (ltb n (f x)) _ (le-ltb n (f x) (omega arith)) (none_pass f xs n (omega arith))
 

@@ -1,6 +1,7 @@
 -- What ties an account's record to what its history says of it.
 use Rattle.std.proofs.Common.{◌≡◌, ℕ, ◌+◌, ◌*◌, ◌≤◌, Bool, true, false, cond, not, eqb, leb, List, [], ◌∷◌, Some, None, Option, refl, ap, subst, mul-zero, arith}
 use Rattle.std.proofs.lemmas.Bool.{and_parts, eqb-true, leb-true, not-false}
+use Rattle.std.specs.List.{position_from}
 use Rattle.accounts.specs.declared.record.Line.{Line}
 use Rattle.accounts.specs.declared.record.Record.{Record}
 use Rattle.accounts.specs.declared.record.State as state
@@ -9,7 +10,6 @@ use Rattle.accounts.specs.Ranges.{account_in_range, line_in_range, savings_in_ra
 use Rattle.crediting.specs.Ranges.{is_class}
 use Rattle.ledger.specs.Records.{gaining, is_closed, put, record_of, unallocated}
 use Rattle.ledger.specs.Rules.{share}
-use Rattle.ledger.specs.Sums.{first_from}
 use Rattle.journal.specs.Histories.{class_on, percentage_on}
 use Rattle.journal.proofs.Entering.{entry, placed}
 use Rattle.ledger.proofs.Found.{nowhere}
@@ -158,7 +158,7 @@ line_tie p k g u l (Some r) ok t = go r.state t
     go Closed t = tt
 
 -- all lines of a request, each in range
-pub entry_tie : (p k g u a i : ℕ) (o : Option Record) (ls : List Line) → first_from i (λ l. not (line_in_range l)) ls ≡ None → Tied p k g u o → Tied (percentage_on a ls) (class_on a k ls) g u (entry a ls (changed unallocated o))
+pub entry_tie : (p k g u a i : ℕ) (o : Option Record) (ls : List Line) → position_from (λ l. not (line_in_range l)) i ls ≡ None → Tied p k g u o → Tied (percentage_on a ls) (class_on a k ls) g u (entry a ls (changed unallocated o))
 entry_tie p k g u a i o [] ok t = unallocated_tie p k g u o t
 entry_tie p k g u a i o (l ∷ ls) ok t =
     let oks = nowhere i (λ x. not (line_in_range x)) l ls ok in

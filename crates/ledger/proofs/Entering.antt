@@ -3,13 +3,14 @@ use Rattle.std.proofs.Common.{◌≡◌, ℕ, zero, suc, ◌+◌, ◌<◌, ◌�
 use Rattle.std.proofs.lemmas.Bool.{and_from, and_parts, lt-ltb, not-false}
 use Rattle.std.proofs.lemmas.List.{length_push, map_push}
 use Rattle.std.proofs.lemmas.Bool.Decides.{nat_tests}
+use Rattle.std.specs.List.{position_from}
 use Rattle.accounts.proofs.Finding.{found_present, present_push}
 use Rattle.accounts.specs.Books.{accounts, find, present, takes, every}
 use Rattle.accounts.specs.declared.record.Line.{Line}
 use Rattle.accounts.specs.declared.record.Record.{Record}
 use Rattle.accounts.specs.Ranges.{in_range, line_in_range}
 use Rattle.ledger.specs.Lines.{joins, new_accounts, enter}
-use Rattle.ledger.specs.Sums.{total, first_from}
+use Rattle.ledger.specs.Sums.{total}
 use Rattle.ledger.proofs.Found.{present_found, accounts_put, put_length, nowhere}
 use Rattle.ledger.proofs.Scanning.{zero_line}
 use Rattle.ledger.specs.Records.{record_of, unallocated, allocated, joining}
@@ -55,7 +56,7 @@ enter_fits rs l ls room (Some r) e h =
     omega arith
 
 -- lines of which none is out of range
-pub none_out : (i : ℕ) (ls : List Line) → first_from i (λ l. not (line_in_range l)) ls ≡ None → every line_in_range ls ≡ true
+pub none_out : (i : ℕ) (ls : List Line) → position_from (λ l. not (line_in_range l)) i ls ≡ None → every line_in_range ls ≡ true
 none_out i [] e = refl
 none_out i (l ∷ ls) e =
     let n = nowhere i (λ (x : Line). not (line_in_range x)) l ls e in

@@ -1,10 +1,11 @@
 -- The record of an account in a list of records, after one is put in its place, all are changed, or one joins.
 use Rattle.std.proofs.Common.{◌≡◌, ℕ, ◌+◌, ◌≤◌, Bool, true, false, cond, eqb, List, [], ◌∷◌, ◌++◌, map, length, is_some, Some, None, Option, refl, arith}
 use Rattle.std.proofs.lemmas.Bool.Decides.{nat_tests}
+use Rattle.std.specs.List.{position_from}
 use Rattle.accounts.specs.declared.record.Record.{Record}
 use Rattle.ledger.specs.Records.{record_of, put}
 use Rattle.accounts.specs.Books.{accounts, present}
-use Rattle.ledger.specs.Sums.{total, first_from}
+use Rattle.ledger.specs.Sums.{total}
 
 -- the record that is found is of the account
 pub found_account : (a : ℕ) (rs : List Record) (r : Record) → record_of a rs ≡ Some r → r.account ≡ a
@@ -52,9 +53,9 @@ accounts_put n [] = refl
 accounts_put n (r ∷ rs) = let ih = accounts_put n rs in grind (arith, nat_tests)
 
 -- a test that passes nowhere
-pub nowhere : {X : Type 0} (i : ℕ) (test : X → Bool) (x : X) (xs : List X) → first_from i test (x ∷ xs) ≡ None → (test x ≡ false) × (first_from (i + 1) test xs ≡ None)
+pub nowhere : {X : Type 0} (i : ℕ) (test : X → Bool) (x : X) (xs : List X) → position_from test i (x ∷ xs) ≡ None → (test x ≡ false) × (position_from test (i + 1) xs ≡ None)
 nowhere i test x xs = go (test x)
   where
-    go : (b : Bool) → cond b (Some i) (first_from (i + 1) test xs) ≡ None → (b ≡ false) × (first_from (i + 1) test xs ≡ None)
+    go : (b : Bool) → cond b (Some i) (position_from test (i + 1) xs) ≡ None → (b ≡ false) × (position_from test (i + 1) xs ≡ None)
     go true e = let z : ◌≡◌ {A = ℕ} 0 1 = cc in absurd (omega arith)
     go false e = (refl, e)

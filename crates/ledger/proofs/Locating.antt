@@ -1,11 +1,12 @@
 -- A search's place, and the record of the account that was sought.
-use Rattle.std.proofs.Common.{◌≡◌, ℕ, suc, ◌+◌, ◌-◌, ◌≤◌, true, false, eqb, List, [], ◌∷◌, set, Some, None, Option, sym, refl, ap, ◌∙◌, subst, ⊎_elim, arith, eq-eqb, eqb-true, MatchOption}
+use Rattle.std.proofs.Common.{◌≡◌, ℕ, suc, ◌+◌, ◌-◌, ◌≤◌, true, false, eqb, List, [], ◌∷◌, set, Some, None, Option, sym, refl, ap, ◌∙◌, subst, ⊎_elim, arith, eq-eqb, eqb-true, IfSome, MatchOption, option_map}
 use Rattle.std.proofs.lemmas.Bool.{and_from, cases_Bool, cond-true, cond-false}
 use Rattle.std.specs.List.{slice_get}
 use Rattle.accounts.proofs.Keeping.{every_nth}
 use Rattle.accounts.specs.declared.record.Record.{Record}
 use Rattle.accounts.specs.Books.{accounts, find_from, find, Proper, suits, same_account}
 use Rattle.accounts.specs.Ranges.{in_range}
+use Rattle.ledger.specs.declared.entry.Entry.{Entry}
 use Rattle.ledger.specs.Records.{record_of, put, Located}
 
 -- what stands at a place that a search gave
@@ -93,7 +94,8 @@ missing a j (x ∷ rs) e =
     ∙ missing a (j + 1) rs (sym (cond-false (eqb x.account a) (Some j) (find_from (j + 1) a (accounts rs)) f) ∙ e))
     (cases_Bool (eqb x.account a))
 
--- what a book's `get` gives at a place that its search gave
-pub located_cases : (a i room : ℕ) (rs : List Record) (o : Option Record) → Proper rs room → find a (accounts rs) ≡ Some i → o ≡ slice_get rs i → MatchOption o ⊥ (λ r. Located rs a i r)
-located_cases a i room rs None p e n = found_some a i rs e (sym n)
-located_cases a i room rs (Some r) p e n = located a i room rs r p e (sym n)
+-- what is read from a book at a place that its search gave
+pub located_cases : (a i room : ℕ) (rs : List Record) (o : Option Entry) → Proper rs room → find a (accounts rs) ≡ Some i → option_map (λ x. x.holder) o ≡ slice_get rs i → IfSome o (λ x. x.place ≡ i) → MatchOption o ⊥ (λ x. Located rs a x.place x.holder)
+located_cases a i room rs None p e n h = found_some a i rs e (sym n)
+located_cases a i room rs (Some x) p e n h =
+    subst (λ k. Located rs a k x.holder) (sym h) (located a i room rs x.holder p e (sym n))

@@ -10,6 +10,8 @@ use Rattle.accounts.specs.Books.{Contents, Left, suits, replaced, same_account}
 use Rattle.ledger.specs.declared.call.Done.{Done}
 use Rattle.ledger.specs.declared.call.Refusal.{Refusal}
 use Rattle.ledger.specs.declared.ledger.Ledger.{Ledger}
+use Rattle.ledger.specs.declared.entry.Entry.{Entry}
+use Rattle.ledger.specs.Accepting.{Changes}
 use Rattle.ledger.specs.Views.{Kept, outcome}
 use Rattle.accounts.specs.Ranges.{in_range}
 
@@ -76,11 +78,15 @@ module _ (f : Record → Record) where
   set_over rs ys i r o e =
       map_over_more f rs ys i r (nth_within rs i r (sym (nth_over rs i) ∙ sym (ap (λ zs. slice_get zs i) o) ∙ e)) o (nth_is ys i r e)
 
-  pub replace_more : {S S' : Type 0} {now now' before : Contents} (rs : List Record) (i : ℕ) (r : Record) (answer : Bool) → Left S now before (over rs i) → (S → answer ≡ suits now.records i (f r)) → (S → Left S' now' now (replaced answer now.records i (f r))) → slice_get now.records i ≡ Some r → (f r).account ≡ r.account → in_range (f r) ≡ true → Left S' now' before (over rs (i + 1))
-  replace_more {now = now} rs i r answer h says leaves e a k =
+  pub replace_more : {S S' : Type 0} {now now' before : Contents} {gives : Entry → Record → Type 0} (rs : List Record) (i : ℕ) (x : Entry) (new : Record) (answer : Bool) → Changes gives f rs → gives x new → Left S now before (over rs i) → (S → Some x.holder ≡ slice_get now.records i) → (S → answer ≡ suits now.records i new) → (S → Left S' now' now (replaced answer now.records i new)) → Left S' now' before (over rs (i + 1))
+  replace_more {now = now} rs i x new answer k gave h told says leaves =
+      let r = x.holder in
       let ys = now.records in
-      let yes' = says h.stays ∙ suits_over ys i r a e k in
-      left_on h (left_as (leaves h.stays) (cond-true answer (set ys i (f r)) ys yes' ∙ set_over rs ys i r h.list e))
+      let is : new ≡ f r = k.computed x new gave in
+      let e = sym (told h.stays) in
+      let at = sym (nth_over rs i) ∙ sym (ap (λ zs. slice_get zs i) h.list) ∙ e in
+      let taken = says h.stays ∙ ap (suits ys i) is ∙ suits_over ys i r (k.whose r) e (k.ranged i r at x.ranged) in
+      left_on h (left_as (leaves h.stays) (cond-true answer (set ys i new) ys taken ∙ ap (set ys i) is ∙ set_over rs ys i r h.list e))
 
   pub over_all : (rs : List Record) (i : ℕ) → length rs ≤ i → over rs i ≡ map f rs
   over_all rs i h = ap (λ zs. map f zs ++ drop i rs) (take_all i rs h) ∙ ap (λ zs. map f rs ++ zs) (drop_all i rs h) ∙ append-nil (map f rs)

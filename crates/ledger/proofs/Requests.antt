@@ -1,6 +1,7 @@
 -- Lines of a request that are accepted, or why they are not.
-use Rattle.std.proofs.Common.{◌≡◌, ℕ, ◌+◌, ◌-◌, ◌≤◌, Bool, true, false, cond, not, ◌&&◌, ◌||◌, ltb, ◌≢◌, List, [], ◌∷◌, ◌++◌, map, length, Some, None, Ok, Err, Option, Result, sym, refl, ap, ◌∙◌, subst, arith}
+use Rattle.std.proofs.Common.{◌≡◌, ℕ, ◌+◌, ◌-◌, ◌≤◌, Bool, true, false, cond, not, ◌&&◌, ◌||◌, ltb, ◌≢◌, List, [], ◌∷◌, ◌++◌, map, length, Some, None, Ok, Err, Option, Result, sym, refl, ap, subst, arith}
 use Rattle.std.proofs.lemmas.List.{length-map}
+use Rattle.std.specs.List.{position_from}
 use Rattle.std.proofs.lemmas.Bool.{cond_both, ltb-false}
 use Rattle.std.proofs.lemmas.Bool.Decides.{nat_tests}
 use Rattle.accounts.proofs.Finding.{present_push}
@@ -13,7 +14,7 @@ use Rattle.ledger.specs.declared.call.Refusal.TheVariants as why
 use Rattle.ledger.specs.Lines.{enrolled, enter_all, judge_lines, large_percentage, line_accounts, new_accounts, repeated_from, unless_at}
 use Rattle.ledger.specs.Records.{unallocated}
 use Rattle.ledger.specs.Refusals.{number}
-use Rattle.ledger.specs.Sums.{first_from, total}
+use Rattle.ledger.specs.Sums.{total}
 use Rattle.ledger.proofs.Entering.{none_out, unallocated_accounts}
 use Rattle.ledger.proofs.Replacing.{left_as, left_on}
 
@@ -35,7 +36,7 @@ repeated_distinct i earlier (x ∷ later) e =
 
 -- lines that are accepted
 pub record Accepted (room : ℕ) (rs : List Record) (ls : List Line) : Type 0 where
-  pub ranged : first_from 0 (λ l. not (line_in_range l)) ls ≡ None
+  pub ranged : position_from (λ l. not (line_in_range l)) 0 ls ≡ None
   pub apart : distinct (line_accounts ls) ≡ true
   pub whole : total (λ l. l.percentage) ls ≤ 100000
   pub fits : new_accounts rs ls ≤ room - length rs

@@ -1,19 +1,23 @@
 -- A loop over the records of a reading.
-use Rattle.std.proofs.Common.{◌≡◌, ℕ, zero, suc, ◌+◌, ◌<◌, ◌≤◌, Bool, true, false, ◌||◌, ltb, List, [], ◌∷◌, length, drop, Some, sym, refl, ap, ◌∙◌, subst, mul-le-mul_left, arith}
+use Rattle.std.proofs.Common.{◌≡◌, ℕ, zero, suc, ◌+◌, ◌*◌, ◌<◌, ◌≤◌, Bool, true, false, ◌||◌, ltb, List, [], ◌∷◌, length, drop, Some, sym, refl, ap, ◌∙◌, subst, mul-add, mul-le-mul_left, arith}
 use Rattle.std.proofs.lemmas.List.{drop_all}
 use Rattle.std.proofs.lemmas.Bool.{lt-ltb, le-ltb, or_left, or_right, or_from, or_parts}
 use Rattle.std.proofs.lemmas.Bool.Decides.{nat_tests}
-use Rattle.std.specs.List.{slice_get}
+use Rattle.std.specs.List.{list_any, slice_get}
 use Rattle.accounts.specs.declared.record.Record.{Record}
 use Rattle.accounts.specs.Ranges.{in_range}
 use Rattle.ledger.specs.Records.{gaining}
 use Rattle.ledger.specs.Rules.{share}
 use Rattle.ledger.specs.Steps.{shares, foreign_to_reading}
-use Rattle.ledger.specs.Sums.{total, some}
+use Rattle.ledger.specs.Sums.{total}
 
 -- a share is no more than the reading
 pub share_within : (units percentage : ℕ) → percentage ≤ 100000 → share units percentage ≤ units
 share_within units percentage h = omega (arith, mul-le-mul_left units h)
+
+-- shares rounded down are within their percentages of the reading
+pub shared_within : (units percentages shared percentage gain : ℕ) → gain ≡ share units percentage → shared * 100000 ≤ units * percentages → (shared + gain) * 100000 ≤ units * (percentages + percentage)
+shared_within units percentages shared percentage gain e h = omega (arith, mul-add units percentages percentage)
 
 -- what a place has is the first of what is left from it on
 pub drop_nth : {X : Type 0} (xs : List X) (i : ℕ) (x : X) → slice_get xs i ≡ Some x → drop i xs ≡ x ∷ drop (i + 1) xs
@@ -29,7 +33,7 @@ overfull units r = ltb 1000000000000 (r.held + share units r.percentage)
 pub record LeftToShare (units percentages shared : ℕ) (rs left : List Record) : Type 0 where
   pub percents : percentages + total (λ r. r.percentage) left ≡ total (λ r. r.percentage) rs
   pub gains : shared + shares units left ≡ shares units rs
-  pub full : some (overfull units) left ≡ some (overfull units) rs
+  pub full : list_any (overfull units) left ≡ list_any (overfull units) rs
 
 pub share_none : (units : ℕ) (rs : List Record) → LeftToShare units 0 0 rs rs
 share_none units rs = record { percents = omega arith; gains = omega arith; full = refl }
@@ -47,14 +51,14 @@ module _ (units percentages shared : ℕ) (rs : List Record) (i : ℕ) where
       record {
         percents = omega (arith, k.percents);
         gains = omega (arith, k.gains);
-        full = sym (ap (λ b. b || some (overfull units) (drop (i + 1) rs)) o) ∙ k.full;
+        full = sym (ap (λ b. b || list_any (overfull units) (drop (i + 1) rs)) o) ∙ k.full;
       }
 
   pub past_whole : (r : Record) → slice_get rs i ≡ Some r → LeftAt → 100000 < percentages + r.percentage → foreign_to_reading units rs ≡ true
-  past_whole r e h o = or_left _ (some (overfull units) rs) (lt-ltb 100000 (total (λ (x : Record). x.percentage) rs) (omega (arith, (at_record r e h).percents)))
+  past_whole r e h o = or_left _ (list_any (overfull units) rs) (lt-ltb 100000 (total (λ (x : Record). x.percentage) rs) (omega (arith, (at_record r e h).percents)))
 
   pub past_holding : (r : Record) → slice_get rs i ≡ Some r → LeftAt → overfull units r ≡ true → foreign_to_reading units rs ≡ true
-  past_holding r e h o = or_right _ _ (sym (at_record r e h).full ∙ ap (λ b. b || some (overfull units) (drop (i + 1) rs)) o)
+  past_holding r e h o = or_right _ _ (sym (at_record r e h).full ∙ ap (λ b. b || list_any (overfull units) (drop (i + 1) rs)) o)
 
   pub share_all : length rs ≤ i → LeftAt → percentages ≤ 100000 → (foreign_to_reading units rs ≡ false) × (shared ≡ shares units rs)
   share_all n h p =
@@ -62,14 +66,14 @@ module _ (units percentages shared : ℕ) (rs : List Record) (i : ℕ) where
       (or_from _ _ (le-ltb 100000 (total (λ (x : Record). x.percentage) rs) (omega (arith, k.percents))) (sym k.full), omega (arith, k.gains))
 
 -- where the book is the ledger's own, no account passes what it may hold
-pub not_overfull : (units : ℕ) (rs : List Record) (i : ℕ) (r : Record) → some (overfull units) rs ≡ false → slice_get rs i ≡ Some r → overfull units r ≡ false
+pub not_overfull : (units : ℕ) (rs : List Record) (i : ℕ) (r : Record) → list_any (overfull units) rs ≡ false → slice_get rs i ≡ Some r → overfull units r ≡ false
 not_overfull units [] i r h e = let z : ◌≡◌ {A = ℕ} 0 1 = cc in absurd (omega arith)
 not_overfull units (x ∷ rs) zero r h e =
-    let s : x ≡ r = cc in subst (λ y. overfull units y ≡ false) s (or_parts (overfull units x) (some (overfull units) rs) h).0
+    let s : x ≡ r = cc in subst (λ y. overfull units y ≡ false) s (or_parts (overfull units x) (list_any (overfull units) rs) h).0
 not_overfull units (x ∷ rs) (suc i) r h e =
-    not_overfull units rs i r (or_parts (overfull units x) (some (overfull units) rs) h).1 e
+    not_overfull units rs i r (or_parts (overfull units x) (list_any (overfull units) rs) h).1 e
 
 pub gains_in_range : (units : ℕ) (rs : List Record) (i : ℕ) (r : Record) → foreign_to_reading units rs ≡ false → slice_get rs i ≡ Some r → in_range r ≡ true → in_range (gaining units r) ≡ true
 gains_in_range units rs i r h e k =
-    let o = not_overfull units rs i r (or_parts _ (some (overfull units) rs) h).1 e in
+    let o = not_overfull units rs i r (or_parts _ (list_any (overfull units) rs) h).1 e in
     grind (arith, nat_tests)

@@ -1,5 +1,6 @@
 -- When the lines of an allocation request are enrolled, and what they make of the records.
 use Rattle.std.specs.Prelude.{ℕ, ◌+◌, ◌-◌, Bool, false, cond, not, ◌&&◌, ◌||◌, List, [], ◌∷◌, ◌++◌, map, length, Some, None, Ok, Err, Option, Result, nat_lt}
+use Rattle.std.specs.List.{position_from}
 use Rattle.accounts.specs.declared.record.Line.{Line}
 use Rattle.accounts.specs.declared.record.Record.{Record}
 use Rattle.accounts.specs.declared.record.Size.{Size}
@@ -17,7 +18,7 @@ use Rattle.ledger.specs.declared.call.Refusal.TheVariants.{
   BookTooSmall,
 }
 use Rattle.ledger.specs.Records.{record_of, put, is_closed, unallocated, allocated, joining}
-use Rattle.ledger.specs.Sums.{total, first_from}
+use Rattle.ledger.specs.Sums.{total}
 
 abbrev pub line_accounts : List Line → List ℕ
 line_accounts ls = map (λ l. l.account) ls
@@ -62,9 +63,9 @@ unless_at refusal (Some place) rest = Err (refusal place)
 abbrev pub judge_lines : ℕ → Bool → ℕ → List Record → List Line → Result ℕ Refusal
 judge_lines smallest farm room rs ls =
     cond (nat_lt (length ls) smallest || nat_lt 1024 (length ls)) (Err WrongLineCount)
-    (unless_at LineOutOfRange (first_from 0 (λ l. not (line_in_range l)) ls)
+    (unless_at LineOutOfRange (position_from (λ l. not (line_in_range l)) 0 ls)
     (unless_at AccountRepeated (repeated_from 0 [] (line_accounts ls))
-    (unless_at LineOfClosedAccount (first_from 0 (names_closed rs) ls)
+    (unless_at LineOfClosedAccount (position_from (names_closed rs) 0 ls)
     (cond (nat_lt 100000 (total (λ l. l.percentage) ls)) (Err PercentagesPass)
     (cond (not farm && nat_lt 40000 (total large_percentage ls)) (Err LargePercentagesPass)
     (cond (nat_lt (room - length rs) (new_accounts rs ls)) (Err BookTooSmall)

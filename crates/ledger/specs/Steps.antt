@@ -1,5 +1,6 @@
 -- What each call does to a ledger and its book, and what it answers.
 use Rattle.std.specs.Prelude.{ℕ, ◌+◌, ◌-◌, Bool, cond, ◌||◌, List, map, Some, None, Ok, Err, vec_items, Option, Result, ◌==◌, nat_le, nat_lt}
+use Rattle.std.specs.List.{list_any}
 use Rattle.accounts.specs.declared.record.Line.{Line}
 use Rattle.accounts.specs.declared.record.Record.{Record}
 use Rattle.crediting.specs.Credits.{applied_credit, units_used}
@@ -15,7 +16,7 @@ use Rattle.ledger.specs.Lines.{judge_lines, enrolled}
 use Rattle.ledger.specs.Records.{record_of, put, is_closed, holding, gaining, billed, ended}
 use Rattle.ledger.specs.Rules.{share, net_credit, subscription_fee, counted, utility_fee}
 use Rattle.ledger.specs.States.{State, Outcome, declined, performed}
-use Rattle.ledger.specs.Sums.{total, some}
+use Rattle.ledger.specs.Sums.{total}
 
 -- Open: between periods, all numbers 0
 abbrev pub opened : ℕ → Bool → ℕ → List Record → State
@@ -62,7 +63,7 @@ shares units rs = total (λ r. share units r.percentage) rs
 abbrev pub foreign_to_reading : ℕ → List Record → Bool
 foreign_to_reading units rs =
     nat_lt 100000 (total (λ r. r.percentage) rs)
-    || some (λ r. nat_lt 1000000000000 (r.held + share units r.percentage)) rs
+    || list_any (λ r. nat_lt 1000000000000 (r.held + share units r.percentage)) rs
 
 abbrev pub reading : State → ℕ → Outcome
 reading s units =

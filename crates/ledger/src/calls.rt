@@ -4,7 +4,7 @@ ghost use Rattle.accounts.specs.Books.{Contents};
 ghost use Rattle.ledger.specs.Steps.{judge_open, open_answer, open_leaves, opened, step};
 ghost use Rattle.ledger.specs.Views.{Kept, outcome, view};
 
-use super::bills::{after_bill, after_final_bill, counted_credit, judge_bill};
+use super::bills::judge_bill;
 use super::call::{Call, Done, Refusal, Settlement};
 use super::ledger::Ledger;
 use super::phase::Phase;
@@ -17,11 +17,18 @@ impl Ledger {
     pub fn new() -> Ledger
         ensures { (b : Contents) → view result b ≡ opened 10 false b.room b.records }
     {
+        Ledger::opened(Project {
+            smallest: 10,
+            farm: false,
+        })
+    }
+
+    // A ledger opened for a project: between periods, all numbers 0.
+    fn opened(project: Project) -> Ledger
+        ensures { (b : Contents) → view result b ≡ opened project.smallest project.farm b.room b.records }
+    {
         Ledger {
-            project: Project {
-                smallest: 10,
-                farm: false,
-            },
+            project,
             phase: Phase::Between,
             closed: 0,
             bank: 0,
@@ -40,13 +47,7 @@ impl Ledger {
         if book.count() != 0 {
             return Err(Refusal::BookHasRecords);
         }
-        *self = Ledger {
-            project,
-            phase: Phase::Between,
-            closed: 0,
-            bank: 0,
-            read: 0,
-        };
+        *self = Ledger::opened(project);
         Ok(())
     }
 
@@ -87,12 +88,9 @@ impl Ledger {
             ) => {
                 let period = self.closed + 1;
                 let bill = judge_bill(book, method, period, *applied, *account, *cents)?;
-                *applied += counted_credit(bill.holder.kind, bill.posting.applied);
+                *applied += bill.counted();
                 *fees += bill.posting.fee;
-                let _ = book.replace(
-                    bill.place,
-                    after_bill(bill.holder, period, bill.posting.used),
-                );
+                let _ = book.replace(bill.account.place, bill.billed(period));
                 Ok(Done::Billed(bill.posting))
             }
             (
@@ -105,13 +103,12 @@ impl Ledger {
             ) => {
                 let period = self.closed + 1;
                 let bill = judge_bill(book, method, period, *applied, *account, *cents)?;
-                *applied += counted_credit(bill.holder.kind, bill.posting.applied);
+                *applied += bill.counted();
                 *fees += bill.posting.fee;
-                let forfeited = bill.holder.held - bill.posting.used;
-                let _ = book.replace(bill.place, after_final_bill(bill.holder, period));
+                let _ = book.replace(bill.account.place, bill.ended(period));
                 Ok(Done::FinallyBilled {
                     posting: bill.posting,
-                    forfeited,
+                    forfeited: bill.left(),
                 })
             }
             (Phase::InPeriod { applied, fees }, Call::Close) => {

@@ -3,32 +3,56 @@ ghost use Rattle.std.specs.Prelude.{◌≡◌, ◌+◌, ◌≤◌, true, map, le
 ghost use Rattle.accounts.specs.Books.{Left, every};
 ghost use Rattle.accounts.specs.Ranges.{line_in_range};
 ghost use Rattle.ledger.specs.Lines.{enter, enter_all, judge_lines, new_accounts, joins};
-ghost use Rattle.ledger.specs.Records.{record_of, unallocated};
+ghost use Rattle.ledger.specs.Records.{allocated, joining, record_of, unallocated};
 ghost use Rattle.ledger.specs.Steps.{enrol};
 ghost use Rattle.ledger.specs.Views.{Kept, outcome, view};
 
 use super::call::{Done, Refusal};
-use super::holders::{holder_at, located};
+use super::entries::{located, replace_each};
 use super::ledger::Ledger;
+use super::limits::{MOST_LARGE, MOST_LINES, WHOLE};
 use super::lines::{first_closed, first_out_of_range, first_repeated, new_accounts, percentages};
 use accounts::book::AccountBook;
-use accounts::record::{Line, Record, State};
+use accounts::record::{Line, Record};
 
 // Takes each record's percentage away.
 fn clear_percentages<B: AccountBook>(book: &mut B)
     ensures { B.sound book.old → Left (B.sound book.new) (B.contents book.new) (B.contents book.old) (map unallocated (B.contents book.old).records) }
 {
-    for place in 0..book.count() {
-        if let Some(holder) = holder_at(book, place) {
-            let _ = book.replace(
-                place,
-                Record {
-                    percentage: 0,
-                    ..holder
-                },
-            );
-        }
+    replace_each(
+        book,
+        |entry| Record {
+            percentage: 0,
+            ..entry.holder
+        },
+    );
+}
+
+// A record with a line's values.
+fn allocated(line: &Line, holder: Record) -> Record
+    ensures { result ≡ allocated line.now holder }
+{
+    Record {
+        percentage: line.percentage,
+        savings: line.savings,
+        class: line.class,
+        size: line.size,
+        kind: line.kind,
+        ..holder
     }
+}
+
+// The record of a new account.
+fn joining(line: &Line) -> Record
+    ensures { result ≡ joining line.now }
+{
+    allocated(
+        line,
+        Record {
+            account: line.account,
+            ..Record::default()
+        },
+    )
 }
 
 // Gives a line's account its values, or adds the account where the book lacks it.
@@ -37,32 +61,12 @@ fn enter_line<B: AccountBook>(book: &mut B, line: &Line)
 {
     match book.search(line.account) {
         Some(place) => {
-            if let Some(holder) = located(book, line.account, place) {
-                let _ = book.replace(
-                    place,
-                    Record {
-                        percentage: line.percentage,
-                        savings: line.savings,
-                        class: line.class,
-                        size: line.size,
-                        kind: line.kind,
-                        ..holder
-                    },
-                );
+            if let Some(entry) = located(book, line.account, place) {
+                let _ = book.replace(entry.place, allocated(line, entry.holder));
             }
         }
         None => {
-            let _ = book.add(Record {
-                account: line.account,
-                percentage: line.percentage,
-                savings: line.savings,
-                class: line.class,
-                size: line.size,
-                kind: line.kind,
-                state: State::Open,
-                held: 0,
-                last: 0,
-            });
+            let _ = book.add(joining(line));
         }
     }
 }
@@ -81,7 +85,7 @@ impl Ledger {
     fn judge_lines<B: AccountBook>(&self, book: &B, lines: &[Line]) -> Result<usize, Refusal>
         ensures { B.sound book.now → result ≡ judge_lines self.now.project.smallest self.now.project.farm (B.contents book.now).room (B.contents book.now).records lines.now }
     {
-        if lines.len() < self.project.smallest as usize || lines.len() > 1_024 {
+        if lines.len() < self.project.smallest as usize || lines.len() > MOST_LINES {
             return Err(Refusal::WrongLineCount);
         }
         if let Some(place) = first_out_of_range(lines) {
@@ -94,10 +98,10 @@ impl Ledger {
             return Err(Refusal::LineOfClosedAccount { place });
         }
         let sums = percentages(lines);
-        if sums.all > 100_000 {
+        if sums.all > WHOLE {
             return Err(Refusal::PercentagesPass);
         }
-        if !self.project.farm && sums.large > 40_000 {
+        if !self.project.farm && sums.large > MOST_LARGE {
             return Err(Refusal::LargePercentagesPass);
         }
         let new = new_accounts(book, lines);

@@ -2,12 +2,15 @@
 // book.
 #![tactic(auto)]
 
+mod accepted;
 mod bills;
 pub mod call;
 mod calls;
 mod enrolment;
-mod holders;
+mod entries;
+mod entry;
 pub mod ledger;
+mod limits;
 mod lines;
 mod moves;
 pub mod phase;

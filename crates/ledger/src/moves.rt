@@ -4,10 +4,11 @@ ghost use Rattle.ledger.specs.Steps.{disburse};
 ghost use Rattle.ledger.specs.Views.{Kept, outcome, view};
 
 use super::call::{Done, Refusal};
-use super::holders::located;
+use super::entries::open_entry;
 use super::ledger::Ledger;
 use accounts::book::AccountBook;
-use accounts::record::{Record, State};
+use accounts::record::Record;
+use crediting::credit::MOST_UNITS;
 
 impl Ledger {
     // Moves units from the host's bank to an account.
@@ -20,26 +21,19 @@ impl Ledger {
         ensures kept { B.sound book.old → Kept (B.sound book.new) (B.contents book.new) (B.contents book.old) }
         ensures steps { B.sound book.old → outcome self.new (B.contents book.new) result ≡ disburse (view self.old (B.contents book.old)) account units }
     {
-        let Some(place) = book.search(account) else {
-            return Err(Refusal::NoOpenAccount);
-        };
-        let Some(holder) = located(book, account, place) else {
-            return Err(Refusal::ForeignBook);
-        };
-        if let State::Closed = holder.state {
-            return Err(Refusal::NoOpenAccount);
-        }
+        let entry = open_entry(book, account)?;
         if units == 0 || units > self.bank {
             return Err(Refusal::NotInBank);
         }
-        if holder.held > 1_000_000_000_000 - units {
+        let held = entry.holder.held + units;
+        if held > MOST_UNITS {
             return Err(Refusal::ForeignBook);
         }
         let _ = book.replace(
-            place,
+            entry.place,
             Record {
-                held: holder.held + units,
-                ..holder
+                held,
+                ..entry.holder
             },
         );
         self.bank -= units;

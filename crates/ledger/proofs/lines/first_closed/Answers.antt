@@ -1,18 +1,12 @@
-use Rattle.std.proofs.Common.{sym, ◌∙◌}
+use Rattle.std.proofs.Common.{◌∙◌, rules, tests}
+use Rattle.std.proofs.lemmas.Iterator.{YieldsList-from_slice}
+use Rattle.std.proofs.lemmas.Iterator.Adapters.{position_from-zero}
+use Rattle.std.proofs.lemmas.Iterator.Search.{position_from_yields_List}
 use Rattle.ledger.specs.Lines.{names_closed}
-use Rattle.ledger.proofs.Scanning.{zero_line, first_hit, first_miss, first_end}
 use Rattle.ledger.proofs.lines.first_closed.Goals as goal
-
-pub returns-then-is_closed : goal.returns-then-is_closed
-returns-then-is_closed g c s =
-    sym (first_hit (names_closed (g.B.AccountBook.contents c.args.book.now).records) c.args.lines.now c.loop-i.i zero_line c.loop-i-test.true (sym (c.if-is_closed.ensures s)))
-    ∙ c.loop-i.invariant s
-
-pub loop-i-preserved : goal.loop-i-preserved
-loop-i-preserved g c s =
-    sym (first_miss (names_closed (g.B.AccountBook.contents c.args.book.now).records) c.args.lines.now c.loop-i.i zero_line c.loop-i-test.true (sym (c.if-is_closed.ensures s)))
-    ∙ c.loop-i.invariant s
 
 pub returns : goal.returns
 returns g c s =
-    sym (first_end (names_closed (g.B.AccountBook.contents c.args.book.now).records) c.args.lines.now c.loop-i.i c.loop-i-test.false) ∙ c.loop-i.invariant s
+    let closed = names_closed (g.B.AccountBook.contents c.args.book.now).records in
+    position_from_yields_List closed _ _ c.position.result c.position.ensures.ran (YieldsList-from_slice c.args.lines.now cc) (λ x b q k. search (rules, tests))
+    ∙ position_from-zero closed c.args.lines.now

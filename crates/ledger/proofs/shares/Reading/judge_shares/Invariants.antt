@@ -1,10 +1,11 @@
 use Rattle.std.proofs.Common.{◌*◌, ◌≤◌, drop}
 use Rattle.ledger.proofs.Sharing.{LeftToShare}
-use Rattle.ledger.proofs.shares.judge_shares.Given as goal
+use Rattle.ledger.proofs.shares.Reading.judge_shares.Given as goal
 
 -- what is left of each sum; and whatever the book, the shares so far are within their percentages of the reading
 abbrev pub invariant-loop-place : goal.invariant-loop-place
 invariant-loop-place g l =
-    (g.B.AccountBook.sound l.book → LeftToShare l.units l.percentages l.shared (g.B.AccountBook.contents l.book).records (drop l.place (g.B.AccountBook.contents l.book).records))
+    let units = l.self.units in
+    (g.B.AccountBook.sound l.book → LeftToShare units l.percentages l.shared (g.B.AccountBook.contents l.book).records (drop l.place (g.B.AccountBook.contents l.book).records))
     × (l.percentages ≤ 100000)
-    × (l.shared * 100000 ≤ l.units * l.percentages)
+    × (l.shared * 100000 ≤ units * l.percentages)

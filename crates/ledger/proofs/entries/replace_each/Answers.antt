@@ -1,0 +1,25 @@
+use Rattle.std.proofs.Common.{◌+◌, ap, ◌∙◌, sym, subst, arith}
+use Rattle.std.specs.List.{slice_get}
+use Rattle.accounts.specs.Books.{Left}
+use Rattle.ledger.proofs.Replacing.{left_as, replace_more, over, nth_over, over_all, nth_below}
+use Rattle.ledger.proofs.entries.replace_each.Goals as goal
+use Rattle.ledger.proofs.entries.replace_each.Goals.{in-Some, in_default}
+
+pub loop-place-preserved : goal.loop-place-preserved
+loop-place-preserved g c =
+    let b = g.B.AccountBook in
+    let rs = (b.contents c.args.book.now).records in
+    let i = c.loop-place.place in
+    elim c.match-entry_at.branch [
+      | in-Some w ↦ λ s f k.
+          subst (λ z. Left (b.sound z) (b.contents z) (b.contents c.args.book.now) (over f rs (i + 1))) (sym w.book-is)
+          (replace_more f rs i w.in-Some.entry w.change.result w.replace.result k w.change.ensures (c.loop-place.invariant s f k) w.in-Some.ensures.told w.replace.ensures.answer w.replace.ensures.after)
+      | in_default w ↦ λ s f k.
+          let h = c.loop-place.invariant s f k in
+          absurd (nth_below rs i (omega (arith, c.count-place-end.ensures s, c.loop-place-test.true)) (w.in_default.ensures.told h.stays ∙ ap (λ zs. slice_get zs i) h.list ∙ nth_over f rs i))
+    ]
+
+pub returns : goal.returns
+returns g c s f k =
+    let rs = (g.B.AccountBook.contents c.args.book.now).records in
+    left_as (c.loop-place.invariant s f k) (over_all f rs c.loop-place.place (omega (arith, c.count-place-end.ensures s, c.loop-place-test.false)))
