@@ -15,7 +15,7 @@ use Rattle.posting.specs.declared.order.Wanted.TheVariants as want
 abbrev pub part : Meaning → Part
 part (said.a_method name) = part_is.Method name
 part (said.a_book book) = part_is.Book book
-part (said.an_opening smallest farm) = part_is.Open (record { smallest = smallest; farm = farm })
+part (said.an_opening project) = part_is.Open project
 part (said.some_rates _) = part_is.Later
 part (said.a_line _) = part_is.Later
 part (said.a_request _) = part_is.Later

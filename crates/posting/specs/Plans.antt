@@ -92,7 +92,7 @@ module _ (worths : List ℕ → ℕ → ℕ → ℕ) where
   abbrev pub after : State → Meaning → List ℕ → State
   after s (said.a_method _) file = s
   after s (said.a_book _) file = s
-  after s (said.an_opening _ _) file = s
+  after s (said.an_opening _) file = s
   after s (said.some_rates rs) file = with_rates s rs
   after s (said.a_line l) file = more_line s l
   after s (said.a_request _) file = read_file s file

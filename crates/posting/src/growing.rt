@@ -84,7 +84,7 @@ impl<M: Rated + Drop> Plan<M> {
         ensures { OnOk result (seen M.CreditMethod.worth self.new ≡ step M.Rated.worths (seen M.CreditMethod.worth self.old) (told entry.now)) }
     {
         match &entry.statement {
-            Statement::Method(_) | Statement::Book(_) | Statement::Open { .. } => Ok(()),
+            Statement::Method(_) | Statement::Book(_) | Statement::Open(_) => Ok(()),
             Statement::Rates(rates) => self.set_rates(rates.as_slice()),
             Statement::Line(line) => self.add_line(*line),
             Statement::Request(_) => self.read_request(entry.file.as_slice(), heap),

@@ -63,10 +63,7 @@ fn part_of(statement: &Statement) -> Part
     match statement {
         Statement::Method(name) => Part::Method(*name),
         Statement::Book(book) => Part::Book(*book),
-        Statement::Open { smallest, farm } => Part::Open(Project {
-            smallest: *smallest,
-            farm: *farm,
-        }),
+        Statement::Open(project) => Part::Open(*project),
         _ => Part::Later,
     }
 }
