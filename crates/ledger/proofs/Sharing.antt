@@ -1,7 +1,6 @@
 -- A loop over the records of a reading.
-use Rattle.std.proofs.Common.{◌≡◌, ℕ, zero, suc, ◌+◌, ◌*◌, ◌<◌, ◌≤◌, Bool, true, false, ◌||◌, ltb, List, [], ◌∷◌, length, drop, Some, sym, refl, ap, ◌∙◌, subst, mul-add, mul-le-mul_left, arith}
-use Rattle.std.proofs.lemmas.List.{drop_all}
-use Rattle.std.proofs.lemmas.Bool.{lt-ltb, le-ltb, or_left, or_right, or_from, or_parts}
+use Rattle.std.proofs.Common.{◌≡◌, ℕ, zero, suc, ◌+◌, ◌*◌, ◌<◌, ◌≤◌, Bool, true, false, ◌||◌, ltb, List, [], ◌∷◌, drop, Some, sym, refl, ap, ◌∙◌, subst, mul-add, arith}
+use Rattle.std.proofs.lemmas.Bool.{lt-ltb, or_left, or_right, or_parts}
 use Rattle.std.proofs.lemmas.Bool.Decides.{nat_tests}
 use Rattle.std.specs.List.{list_any, slice_get}
 use Rattle.accounts.specs.declared.record.Record.{Record}
@@ -10,10 +9,6 @@ use Rattle.ledger.specs.Records.{gaining}
 use Rattle.ledger.specs.Rules.{share}
 use Rattle.ledger.specs.Steps.{shares, foreign_to_reading}
 use Rattle.ledger.specs.Sums.{total}
-
--- a share is no more than the reading
-pub share_within : (units percentage : ℕ) → percentage ≤ 100000 → share units percentage ≤ units
-share_within units percentage h = omega (arith, mul-le-mul_left units h)
 
 -- shares rounded down are within their percentages of the reading
 pub shared_within : (units percentages shared percentage gain : ℕ) → gain ≡ share units percentage → shared * 100000 ≤ units * percentages → (shared + gain) * 100000 ≤ units * (percentages + percentage)
@@ -34,9 +29,6 @@ pub record LeftToShare (units percentages shared : ℕ) (rs left : List Record) 
   pub percents : percentages + total (λ r. r.percentage) left ≡ total (λ r. r.percentage) rs
   pub gains : shared + shares units left ≡ shares units rs
   pub full : list_any (overfull units) left ≡ list_any (overfull units) rs
-
-pub share_none : (units : ℕ) (rs : List Record) → LeftToShare units 0 0 rs rs
-share_none units rs = record { percents = omega arith; gains = omega arith; full = refl }
 
 module _ (units percentages shared : ℕ) (rs : List Record) (i : ℕ) where
   abbrev pub LeftAt : Type 0
@@ -59,11 +51,6 @@ module _ (units percentages shared : ℕ) (rs : List Record) (i : ℕ) where
 
   pub past_holding : (r : Record) → slice_get rs i ≡ Some r → LeftAt → overfull units r ≡ true → foreign_to_reading units rs ≡ true
   past_holding r e h o = or_right _ _ (sym (at_record r e h).full ∙ ap (λ b. b || list_any (overfull units) (drop (i + 1) rs)) o)
-
-  pub share_all : length rs ≤ i → LeftAt → percentages ≤ 100000 → (foreign_to_reading units rs ≡ false) × (shared ≡ shares units rs)
-  share_all n h p =
-      let k = subst (LeftToShare units percentages shared rs) (drop_all i rs n) h in
-      (or_from _ _ (le-ltb 100000 (total (λ (x : Record). x.percentage) rs) (omega (arith, k.percents))) (sym k.full), omega (arith, k.gains))
 
 -- where the book is the ledger's own, no account passes what it may hold
 pub not_overfull : (units : ℕ) (rs : List Record) (i : ℕ) (r : Record) → list_any (overfull units) rs ≡ false → slice_get rs i ≡ Some r → overfull units r ≡ false
