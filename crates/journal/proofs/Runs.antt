@@ -49,7 +49,7 @@ runs_lawfully worth lawful smallest farm room few calls =
 -- an opening that is accepted is refused for nothing, so it is on an empty book
 pub accepted : (judged : Option Refusal) (u : Unit {0}) → Ok u ≡ open_answer judged → judged ≡ None
 accepted None u e = refl
-accepted (Some why) u e = let z : ◌≡◌ {A = ℕ} 0 1 = cc in absurd (omega arith)
+accepted (Some why) u e = cc
 
 empty : (smallest : ℕ) (rs : List Record) → judge_open smallest (length rs) ≡ None → rs ≡ []
 empty smallest [] e = refl

@@ -1,5 +1,5 @@
 -- What ties an account's record to what its history says of it.
-use Rattle.std.proofs.Common.{◌≡◌, ℕ, ◌+◌, ◌*◌, ◌≤◌, Bool, true, false, cond, not, eqb, leb, List, [], ◌∷◌, Some, None, Option, refl, ap, subst, mul-zero, arith}
+use Rattle.std.proofs.Common.{◌≡◌, ℕ, ◌+◌, ◌*◌, ◌≤◌, Bool, true, false, cond, not, eqb, leb, List, [], ◌∷◌, Some, None, Option, option_map, refl, ap, subst, mul-zero, arith}
 use Rattle.std.proofs.lemmas.Bool.{and_parts, eqb-true, leb-true, not-false}
 use Rattle.std.specs.List.{position_from}
 use Rattle.accounts.specs.declared.record.Line.{Line}
@@ -12,8 +12,7 @@ use Rattle.ledger.specs.Records.{gaining, is_closed, put, record_of, unallocated
 use Rattle.ledger.specs.Rules.{share}
 use Rattle.journal.specs.Histories.{class_on, percentage_on}
 use Rattle.journal.proofs.Entering.{entry, placed}
-use Rattle.ledger.proofs.Found.{nowhere}
-use Rattle.ledger.proofs.Found.{changed, put_found}
+use Rattle.ledger.proofs.Found.{nowhere, put_found}
 
 -- an account with no record has been given nothing
 pub record Unknown (percentage given used : ℕ) : Type 0 where
@@ -63,7 +62,7 @@ found_tie p k g u o r e unclosed t = go r.state unclosed (subst (λ x. Tied p k 
   where
     go : (s : state.State) → is_closed s ≡ false → TiedIn p k g u r s → TiedOpen p k g u r
     go Open unclosed t = t
-    go Closed unclosed t = let z : ◌≡◌ {A = ℕ} 0 1 = cc in absurd (omega arith)
+    go Closed unclosed t = cc
 
 tied_in : (p k g u : ℕ) (r : Record) (s : state.State) → TiedOpen p k g u r → TiedIn p k g u r s
 tied_in p k g u r Open t = t
@@ -90,7 +89,7 @@ put_ties P Q a n rs r same e q other ties b = rw (put_found b a n rs r same e) (
     go false t = other b (record_of b rs) t (ties b)
 
 -- a reading
-pub gain_tie : (units p k g u g' : ℕ) (o : Option Record) → g' ≡ share units p + g → Tied p k g u o → Tied p k g' u (changed (gaining units) o)
+pub gain_tie : (units p k g u g' : ℕ) (o : Option Record) → g' ≡ share units p + g → Tied p k g u o → Tied p k g' u (option_map (gaining units) o)
 gain_tie units p k g u g' None e t =
     record {
       none = t.none;
@@ -113,7 +112,7 @@ gain_tie units p k g u g' (Some r) e t = go r.state t
     go Closed t = tt
 
 -- a request without a line of the account
-unallocated_tie : (p k g u : ℕ) (o : Option Record) → Tied p k g u o → Tied 0 k g u (changed unallocated o)
+unallocated_tie : (p k g u : ℕ) (o : Option Record) → Tied p k g u o → Tied 0 k g u (option_map unallocated o)
 unallocated_tie p k g u None t = record { none = refl; nothing = t.nothing; unused = t.unused }
 unallocated_tie p k g u (Some r) t = go r.state t
   where
@@ -135,7 +134,7 @@ line_range l ok =
     let rest = and_parts (savings_in_range l.savings) _ (and_parts (within 1 100000 l.percentage) _ past).1 in
     (leb-true l.savings 9800 (and_parts (leb 500 l.savings) _ rest.0).1, rest.1)
 
-line_tie : (p k g u : ℕ) (l : Line) (o : Option Record) → line_in_range l ≡ true → Tied p k g u o → Tied l.percentage l.class g u (Some (placed l (changed unallocated o)))
+line_tie : (p k g u : ℕ) (l : Line) (o : Option Record) → line_in_range l ≡ true → Tied p k g u o → Tied l.percentage l.class g u (Some (placed l (option_map unallocated o)))
 line_tie p k g u l None ok t =
     record {
       allocation = refl;
@@ -158,14 +157,14 @@ line_tie p k g u l (Some r) ok t = go r.state t
     go Closed t = tt
 
 -- all lines of a request, each in range
-pub entry_tie : (p k g u a i : ℕ) (o : Option Record) (ls : List Line) → position_from (λ l. not (line_in_range l)) i ls ≡ None → Tied p k g u o → Tied (percentage_on a ls) (class_on a k ls) g u (entry a ls (changed unallocated o))
+pub entry_tie : (p k g u a i : ℕ) (o : Option Record) (ls : List Line) → position_from (λ l. not (line_in_range l)) i ls ≡ None → Tied p k g u o → Tied (percentage_on a ls) (class_on a k ls) g u (entry a ls (option_map unallocated o))
 entry_tie p k g u a i o [] ok t = unallocated_tie p k g u o t
 entry_tie p k g u a i o (l ∷ ls) ok t =
     let oks = nowhere i (λ x. not (line_in_range x)) l ls ok in
     go (eqb l.account a) (line_tie p k g u l o (not-false _ oks.0) t) (entry_tie p k g u a (i + 1) o ls oks.1 t)
   where
     now : Option Record
-    now = changed unallocated o
+    now = option_map unallocated o
 
     go : (b : Bool) → Tied l.percentage l.class g u (Some (placed l now)) → Tied (percentage_on a ls) (class_on a k ls) g u (entry a ls now) → Tied (cond b l.percentage (percentage_on a ls)) (cond b l.class (class_on a k ls)) g u (cond b (Some (placed l now)) (entry a ls now))
     go true one rest = one

@@ -18,9 +18,6 @@ use Rattle.ledger.specs.Records.{record_of, unallocated, allocated, joining}
 pub unallocated_in_range : (r : Record) → in_range r ≡ true → in_range (unallocated r) ≡ true
 unallocated_in_range r h = grind (arith, nat_tests)
 
-pub allocated_in_range : (l : Line) (r : Record) → line_in_range l ≡ true → in_range r ≡ true → in_range (allocated l r) ≡ true
-allocated_in_range l r k h = grind (arith, nat_tests)
-
 pub joining_in_range : (l : Line) → line_in_range l ≡ true → in_range (joining l) ≡ true
 joining_in_range l k = grind (arith, nat_tests)
 

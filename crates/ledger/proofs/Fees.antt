@@ -13,10 +13,6 @@ pub fee_covers : (kind : Kind) (savings applied : ℕ) → savings ≤ 9800 → 
 fee_covers Member savings applied h = omega (arith, mul-le-mul_left applied h)
 fee_covers Anchor savings applied h = omega arith
 
-pub fee_counted : (kind : Kind) (savings applied : ℕ) → subscription_fee kind savings applied ≤ counted kind applied
-fee_counted Member savings applied = omega arith
-fee_counted Anchor savings applied = omega arith
-
 -- so the fees of a period cover its utility fee
 pub utility_covered : (applied fees : ℕ) → applied ≤ 50 * fees → utility_fee applied ≤ fees
 utility_covered applied fees h = omega arith

@@ -1,5 +1,5 @@
 -- The record of an account in a list of records, after one is put in its place, all are changed, or one joins.
-use Rattle.std.proofs.Common.{◌≡◌, ℕ, ◌+◌, ◌≤◌, Bool, true, false, cond, eqb, List, [], ◌∷◌, ◌++◌, map, length, is_some, Some, None, Option, refl, arith}
+use Rattle.std.proofs.Common.{◌≡◌, ℕ, ◌+◌, ◌≤◌, Bool, true, false, cond, eqb, List, [], ◌∷◌, ◌++◌, map, length, is_some, Some, None, option_map, refl, arith}
 use Rattle.std.proofs.lemmas.Bool.Decides.{nat_tests}
 use Rattle.std.specs.List.{position_from}
 use Rattle.accounts.specs.declared.record.Record.{Record}
@@ -9,12 +9,12 @@ use Rattle.ledger.specs.Sums.{total}
 
 -- the record that is found is of the account
 pub found_account : (a : ℕ) (rs : List Record) (r : Record) → record_of a rs ≡ Some r → r.account ≡ a
-found_account a [] r e = let z : ◌≡◌ {A = ℕ} 0 1 = cc in absurd (omega arith)
+found_account a [] r e = cc
 found_account a (x ∷ rs) r e = let ih = found_account a rs r in grind (arith, nat_tests)
 
 -- and a number of it is at most that of all records together
 pub found_within : (f : Record → ℕ) (a : ℕ) (rs : List Record) (r : Record) → record_of a rs ≡ Some r → f r ≤ total f rs
-found_within f a [] r e = let z : ◌≡◌ {A = ℕ} 0 1 = cc in absurd (omega arith)
+found_within f a [] r e = cc
 found_within f a (x ∷ rs) r e = let ih = found_within f a rs r in grind (arith, nat_tests)
 
 pub put_length : (n : Record) (rs : List Record) → length (put n rs) ≡ length rs
@@ -23,19 +23,14 @@ put_length n (x ∷ rs) = let ih = put_length n rs in grind (arith, nat_tests)
 
 -- n is put in the place of r, the record of account a
 pub put_total : (f : Record → ℕ) (a : ℕ) (n : Record) (rs : List Record) (r : Record) → n.account ≡ a → record_of a rs ≡ Some r → total f (put n rs) + f r ≡ total f rs + f n
-put_total f a n [] r same e = let z : ◌≡◌ {A = ℕ} 0 1 = cc in absurd (omega arith)
+put_total f a n [] r same e = cc
 put_total f a n (x ∷ rs) r same e = let ih = put_total f a n rs r same in grind (arith, nat_tests)
 
 pub put_found : (b a : ℕ) (n : Record) (rs : List Record) (r : Record) → n.account ≡ a → record_of a rs ≡ Some r → record_of b (put n rs) ≡ cond (eqb a b) (Some n) (record_of b rs)
-put_found b a n [] r same e = let z : ◌≡◌ {A = ℕ} 0 1 = cc in absurd (omega arith)
+put_found b a n [] r same e = cc
 put_found b a n (x ∷ rs) r same e = let ih = put_found b a n rs r same in grind (arith, nat_tests)
 
--- a change of a record, if there is one
-abbrev pub changed : (Record → Record) → Option Record → Option Record
-changed f None = None
-changed f (Some r) = Some (f r)
-
-pub map_found : (f : Record → Record) → ((r : Record) → (f r).account ≡ r.account) → (a : ℕ) (rs : List Record) → record_of a (map f rs) ≡ changed f (record_of a rs)
+pub map_found : (f : Record → Record) → ((r : Record) → (f r).account ≡ r.account) → (a : ℕ) (rs : List Record) → record_of a (map f rs) ≡ option_map f (record_of a rs)
 map_found f same a [] = refl
 map_found f same a (x ∷ rs) = let ih = map_found f same a rs in let e = same x in grind (arith, nat_tests)
 
@@ -57,5 +52,5 @@ pub nowhere : {X : Type 0} (i : ℕ) (test : X → Bool) (x : X) (xs : List X) �
 nowhere i test x xs = go (test x)
   where
     go : (b : Bool) → cond b (Some i) (position_from test (i + 1) xs) ≡ None → (b ≡ false) × (position_from test (i + 1) xs ≡ None)
-    go true e = let z : ◌≡◌ {A = ℕ} 0 1 = cc in absurd (omega arith)
+    go true e = cc
     go false e = (refl, e)

@@ -2,7 +2,6 @@ pub mod Fees
 pub mod Found
 pub mod Totals
 pub mod Locating
-pub mod Judging
 pub mod Scanning
 pub mod Sharing
 pub mod Replacing

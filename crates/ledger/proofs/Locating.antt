@@ -1,13 +1,17 @@
 -- A search's place, and the record of the account that was sought.
-use Rattle.std.proofs.Common.{◌≡◌, ℕ, suc, ◌+◌, ◌-◌, ◌≤◌, true, false, eqb, List, [], ◌∷◌, set, Some, None, Option, sym, refl, ap, ◌∙◌, subst, ⊎_elim, arith, eq-eqb, eqb-true, IfSome, MatchOption, option_map}
-use Rattle.std.proofs.lemmas.Bool.{and_from, cases_Bool, cond-true, cond-false}
+use Rattle.std.proofs.Common.{◌≡◌, ℕ, suc, ◌+◌, ◌-◌, ◌≤◌, true, false, eqb, List, [], ◌∷◌, set, is_some, Some, None, Option, sym, refl, ap, ◌∙◌, subst, ⊎_elim, arith, eq-eqb, eqb-true, IfSome, MatchOption, option_map}
+use Rattle.std.proofs.lemmas.Bool.{cases_Bool, cond-true, cond-false}
 use Rattle.std.specs.List.{slice_get}
+use Rattle.std.proofs.lemmas.Option.{none-some}
+use Rattle.accounts.proofs.Answering.{suits_same}
+use Rattle.accounts.proofs.Finding.{found_present}
 use Rattle.accounts.proofs.Keeping.{every_nth}
 use Rattle.accounts.specs.declared.record.Record.{Record}
-use Rattle.accounts.specs.Books.{accounts, find_from, find, Proper, suits, same_account}
+use Rattle.accounts.specs.Books.{accounts, find_from, find, Proper}
 use Rattle.accounts.specs.Ranges.{in_range}
 use Rattle.ledger.specs.declared.entry.Entry.{Entry}
 use Rattle.ledger.specs.Records.{record_of, put, Located}
+use Rattle.ledger.proofs.Found.{present_found}
 
 -- what stands at a place that a search gave
 record Found (rs : List Record) (a i : ℕ) : Type 0 where
@@ -41,7 +45,7 @@ found_later x rs a i e f =
     }
 
 found_from : (a j i : ℕ) (rs : List Record) → find_from j a (accounts rs) ≡ Some i → (j ≤ i) × Found rs a (i - j)
-found_from a j i [] e = let z : ◌≡◌ {A = ℕ} 0 1 = cc in absurd (omega arith)
+found_from a j i [] e = cc
 found_from a j i (x ∷ rs) e =
     ⊎_elim
     (λ (t : eqb x.account a ≡ true).
@@ -59,40 +63,31 @@ found_at : (a i : ℕ) (rs : List Record) → find a (accounts rs) ≡ Some i �
 found_at a i rs e = subst (Found rs a) (omega arith) (found_from a 0 i rs e).1
 
 -- where a search gave a place, the record there is the account's
-pub located : (a i room : ℕ) (rs : List Record) (r : Record) → Proper rs room → find a (accounts rs) ≡ Some i → slice_get rs i ≡ Some r → Located rs a i r
+located : (a i room : ℕ) (rs : List Record) (r : Record) → Proper rs room → find a (accounts rs) ≡ Some i → slice_get rs i ≡ Some r → Located rs a i r
 located a i room rs r p e n =
     let f = found_at a i rs e in
     let fat = f.at in
     let same : f.found ≡ r = cc in
+    let whose = ap (λ x. x.account) (sym same) ∙ f.whose in
     record {
       told = f.told ∙ ap Some same;
       ranged = every_nth in_range rs i r p.ranged n;
-      whose = ap (λ x. x.account) (sym same) ∙ f.whose;
-      fitting = λ new w k. fits_there f new w k;
+      whose = whose;
+      fitting = λ new w k. suits_same rs i new r n (whose ∙ sym w) k;
       putting = λ new w. f.puts new w;
     }
-  where
-    fits_there : Found rs a i → (new : Record) → new.account ≡ a → in_range new ≡ true → suits rs i new ≡ true
-    fits_there f new w k =
-        and_from (in_range new) (same_account (slice_get rs i) new) k
-        (subst (λ o. same_account o new ≡ true) (sym f.at) (eq-eqb f.found.account new.account (f.whose ∙ sym w)))
 
 -- and there is a record
-pub found_some : (a i : ℕ) (rs : List Record) → find a (accounts rs) ≡ Some i → slice_get rs i ≡ None → ⊥
-found_some a i rs e n = let f = found_at a i rs e in let g = f.at in let z : ◌≡◌ {A = ℕ} 0 1 = cc in omega arith
+found_some : (a i : ℕ) (rs : List Record) → find a (accounts rs) ≡ Some i → slice_get rs i ≡ None → ⊥
+found_some a i rs e n = let f = found_at a i rs e in none-some f.found (sym n ∙ f.at)
 
 -- where a search gave nothing, the account has no record
-pub missing : (a j : ℕ) (rs : List Record) → find_from j a (accounts rs) ≡ None → record_of a rs ≡ None
-missing a j [] e = refl
-missing a j (x ∷ rs) e =
-    ⊎_elim
-    (λ (t : eqb x.account a ≡ true).
-    let same : Some j ≡ None = sym (cond-true (eqb x.account a) (Some j) (find_from (j + 1) a (accounts rs)) t) ∙ e in
-    let z : ◌≡◌ {A = ℕ} 0 1 = cc in absurd (omega arith))
-    (λ (f : eqb x.account a ≡ false).
-    cond-false (eqb x.account a) (Some x) (record_of a rs) f
-    ∙ missing a (j + 1) rs (sym (cond-false (eqb x.account a) (Some j) (find_from (j + 1) a (accounts rs)) f) ∙ e))
-    (cases_Bool (eqb x.account a))
+none_of : {X : Type 0} (o : Option X) → is_some o ≡ false → o ≡ None
+none_of None e = refl
+none_of (Some x) e = cc
+
+pub missing : (a : ℕ) (rs : List Record) → find a (accounts rs) ≡ None → record_of a rs ≡ None
+missing a rs e = none_of _ (sym (present_found a rs) ∙ sym (found_present a 0 (accounts rs)) ∙ ap is_some e)
 
 -- what is read from a book at a place that its search gave
 pub located_cases : (a i room : ℕ) (rs : List Record) (o : Option Entry) → Proper rs room → find a (accounts rs) ≡ Some i → option_map (λ x. x.holder) o ≡ slice_get rs i → IfSome o (λ x. x.place ≡ i) → MatchOption o ⊥ (λ x. Located rs a x.place x.holder)

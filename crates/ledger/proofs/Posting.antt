@@ -5,7 +5,7 @@ use Rattle.std.proofs.lemmas.Bool.Decides.{nat_tests}
 use Rattle.accounts.specs.declared.record.Record.{Record}
 use Rattle.accounts.specs.Books.{Contents, Left, suits, replaced}
 use Rattle.accounts.specs.Ranges.{in_range}
-use Rattle.ledger.specs.declared.accepted.Accepted.{Accepted}
+use Rattle.ledger.specs.declared.bill.Bill.{Bill}
 use Rattle.ledger.specs.declared.call.Done.{Done}
 use Rattle.ledger.specs.declared.call.Posting as posting
 use Rattle.ledger.specs.declared.phase.Phase.TheVariants.{InPeriod}
@@ -21,7 +21,7 @@ billed_in_range period used r h k = grind (arith, nat_tests)
 pub ended_in_range : (period : ℕ) (r : Record) → period ≤ 1200 → in_range r ≡ true → in_range (ended period r) ≡ true
 ended_in_range period r h k = grind (arith, nat_tests)
 
-module _ (worth : ℕ → ℕ → ℕ) (s : State) (applied fees account cents : ℕ) (x : Accepted) where
+module _ (worth : ℕ → ℕ → ℕ) (s : State) (applied fees account cents : ℕ) (x : Bill) where
   -- what a bill leaves and answers
   abbrev pub leaves : ℕ → ℕ → List Record → posting.Posting → Done → Outcome
   leaves more room rs p done =

@@ -1,19 +1,19 @@
 -- A loop that replaces each record of a book by what a function makes of it.
-use Rattle.std.proofs.Common.{◌≡◌, ℕ, zero, suc, ◌+◌, ◌<◌, ◌≤◌, Bool, true, List, [], ◌∷◌, ◌++◌, map, length, get_or, take, drop, set, Some, None, Result, sym, refl, ap, ◌∙◌, subst, append-nil, arith, eq-eqb}
+use Rattle.std.proofs.Common.{◌≡◌, ℕ, zero, suc, ◌+◌, ◌<◌, ◌≤◌, Bool, List, [], ◌∷◌, ◌++◌, map, length, take, drop, set, Some, None, Result, sym, refl, ap, ◌∙◌, append-nil, arith}
 use Rattle.std.proofs.lemmas.List.Edits.{map_over_more}
 use Rattle.std.proofs.lemmas.List.{take_all, drop_all}
-use Rattle.std.proofs.lemmas.Option.{slice_get-get_or}
-use Rattle.std.proofs.lemmas.Bool.{and_from, cond-true}
+use Rattle.std.proofs.lemmas.Option.{get_or_from_slice_get, slice_get_within}
+use Rattle.std.proofs.lemmas.Bool.{cond-true}
 use Rattle.std.specs.List.{slice_get}
+use Rattle.accounts.proofs.Answering.{suits_same}
 use Rattle.accounts.specs.declared.record.Record.{Record}
-use Rattle.accounts.specs.Books.{Contents, Left, suits, replaced, same_account}
+use Rattle.accounts.specs.Books.{Contents, Left, suits, replaced}
 use Rattle.ledger.specs.declared.call.Done.{Done}
 use Rattle.ledger.specs.declared.call.Refusal.{Refusal}
 use Rattle.ledger.specs.declared.ledger.Ledger.{Ledger}
 use Rattle.ledger.specs.declared.entry.Entry.{Entry}
 use Rattle.ledger.specs.Accepting.{Changes}
 use Rattle.ledger.specs.Views.{Kept, outcome}
-use Rattle.accounts.specs.Ranges.{in_range}
 
 -- the same book with another list
 abbrev pub listing : List Record → Contents → Contents
@@ -47,16 +47,8 @@ outcome_left {now = now} {before = before} l answer h =
 
 pub nth_below : {X : Type 0} (xs : List X) (i : ℕ) → i < length xs → None ≡ slice_get xs i → ⊥
 nth_below [] i h e = absurd (omega arith)
-nth_below (x ∷ xs) zero h e = let z : ◌≡◌ {A = ℕ} 0 1 = cc in omega arith
+nth_below (x ∷ xs) zero h e = cc
 nth_below (x ∷ xs) (suc i) h e = nth_below xs i (omega arith) e
-
-nth_within : {X : Type 0} (xs : List X) (i : ℕ) (x : X) → slice_get xs i ≡ Some x → i < length xs
-nth_within [] i x e = let z : ◌≡◌ {A = ℕ} 0 1 = cc in absurd (omega arith)
-nth_within (y ∷ xs) zero x e = omega arith
-nth_within (y ∷ xs) (suc i) x e = let h = nth_within xs i x e in omega arith
-
-nth_is : {X : Type 0} (xs : List X) (i : ℕ) (x : X) → slice_get xs i ≡ Some x → x ≡ get_or xs i x
-nth_is xs i x e = let h = nth_within xs i x e in let g = slice_get-get_or xs i x h in cc
 
 module _ (f : Record → Record) where
   -- the records up to a place are replaced, those from it on are as they were
@@ -69,14 +61,8 @@ module _ (f : Record → Record) where
   nth_over (r ∷ rs) zero = refl
   nth_over (r ∷ rs) (suc i) = nth_over rs i
 
-  suits_over : (ys : List Record) (i : ℕ) (r : Record) → (f r).account ≡ r.account → slice_get ys i ≡ Some r → in_range (f r) ≡ true → suits ys i (f r) ≡ true
-  suits_over ys i r a e k =
-      and_from (in_range (f r)) (same_account (slice_get ys i) (f r)) k
-      (subst (λ o. same_account o (f r) ≡ true) (sym e) (eq-eqb r.account (f r).account (sym a)))
-
-  set_over : (rs ys : List Record) (i : ℕ) (r : Record) → ys ≡ over rs i → slice_get ys i ≡ Some r → set ys i (f r) ≡ over rs (i + 1)
-  set_over rs ys i r o e =
-      map_over_more f rs ys i r (nth_within rs i r (sym (nth_over rs i) ∙ sym (ap (λ zs. slice_get zs i) o) ∙ e)) o (nth_is ys i r e)
+  set_over : (rs ys : List Record) (i : ℕ) (r : Record) → ys ≡ over rs i → slice_get ys i ≡ Some r → slice_get rs i ≡ Some r → set ys i (f r) ≡ over rs (i + 1)
+  set_over rs ys i r o e at = map_over_more f rs ys i r (slice_get_within rs i r at) o (sym (get_or_from_slice_get ys i r r e))
 
   pub replace_more : {S S' : Type 0} {now now' before : Contents} {gives : Entry → Record → Type 0} (rs : List Record) (i : ℕ) (x : Entry) (new : Record) (answer : Bool) → Changes gives f rs → gives x new → Left S now before (over rs i) → (S → Some x.holder ≡ slice_get now.records i) → (S → answer ≡ suits now.records i new) → (S → Left S' now' now (replaced answer now.records i new)) → Left S' now' before (over rs (i + 1))
   replace_more {now = now} rs i x new answer k gave h told says leaves =
@@ -85,8 +71,8 @@ module _ (f : Record → Record) where
       let is : new ≡ f r = k.computed x new gave in
       let e = sym (told h.stays) in
       let at = sym (nth_over rs i) ∙ sym (ap (λ zs. slice_get zs i) h.list) ∙ e in
-      let taken = says h.stays ∙ ap (suits ys i) is ∙ suits_over ys i r (k.whose r) e (k.ranged i r at x.ranged) in
-      left_on h (left_as (leaves h.stays) (cond-true answer (set ys i new) ys taken ∙ ap (set ys i) is ∙ set_over rs ys i r h.list e))
+      let taken = says h.stays ∙ ap (suits ys i) is ∙ suits_same ys i (f r) r e (sym (k.whose r)) (k.ranged i r at x.ranged) in
+      left_on h (left_as (leaves h.stays) (cond-true answer (set ys i new) ys taken ∙ ap (set ys i) is ∙ set_over rs ys i r h.list e at))
 
   pub over_all : (rs : List Record) (i : ℕ) → length rs ≤ i → over rs i ≡ map f rs
-  over_all rs i h = ap (λ zs. map f zs ++ drop i rs) (take_all i rs h) ∙ ap (λ zs. map f rs ++ zs) (drop_all i rs h) ∙ append-nil (map f rs)
+  over_all rs i h = rw (take_all i rs h, drop_all i rs h, append-nil (map f rs)) refl

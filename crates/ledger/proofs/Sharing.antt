@@ -1,7 +1,9 @@
 -- A loop over the records of a reading.
-use Rattle.std.proofs.Common.{◌≡◌, ℕ, zero, suc, ◌+◌, ◌*◌, ◌<◌, ◌≤◌, Bool, true, false, ◌||◌, ltb, List, [], ◌∷◌, length, drop, Some, sym, refl, ap, ◌∙◌, subst, mul-add, mul-le-mul_left, arith}
-use Rattle.std.proofs.lemmas.List.{drop_all}
-use Rattle.std.proofs.lemmas.Bool.{lt-ltb, le-ltb, or_left, or_right, or_from, or_parts}
+use Rattle.std.proofs.Common.{◌≡◌, ℕ, suc, ◌+◌, ◌*◌, ◌<◌, ◌≤◌, Bool, true, false, ◌||◌, ltb, List, ◌∷◌, drop, Some, sym, ap, ◌∙◌, ⊎_elim, subst, add-one, mul-add, arith}
+use Rattle.std.proofs.lemmas.Bool.{both_ways, cases_Bool, lt-ltb, or_left, or_right, or_parts}
+use Rattle.std.proofs.lemmas.List.Folds.{list_any_at}
+use Rattle.std.proofs.lemmas.Option.{get_or_from_slice_get, slice_get_within}
+use Rattle.std.proofs.Math.Seq.{drop-cons}
 use Rattle.std.proofs.lemmas.Bool.Decides.{nat_tests}
 use Rattle.std.specs.List.{list_any, slice_get}
 use Rattle.accounts.specs.declared.record.Record.{Record}
@@ -11,19 +13,13 @@ use Rattle.ledger.specs.Rules.{share}
 use Rattle.ledger.specs.Steps.{shares, foreign_to_reading}
 use Rattle.ledger.specs.Sums.{total}
 
--- a share is no more than the reading
-pub share_within : (units percentage : ℕ) → percentage ≤ 100000 → share units percentage ≤ units
-share_within units percentage h = omega (arith, mul-le-mul_left units h)
-
 -- shares rounded down are within their percentages of the reading
 pub shared_within : (units percentages shared percentage gain : ℕ) → gain ≡ share units percentage → shared * 100000 ≤ units * percentages → (shared + gain) * 100000 ≤ units * (percentages + percentage)
 shared_within units percentages shared percentage gain e h = omega (arith, mul-add units percentages percentage)
 
 -- what a place has is the first of what is left from it on
-pub drop_nth : {X : Type 0} (xs : List X) (i : ℕ) (x : X) → slice_get xs i ≡ Some x → drop i xs ≡ x ∷ drop (i + 1) xs
-drop_nth [] i x e = let z : ◌≡◌ {A = ℕ} 0 1 = cc in absurd (omega arith)
-drop_nth (y ∷ xs) zero x e = let s : y ≡ x = cc in rw s refl
-drop_nth (y ∷ xs) (suc i) x e = drop_nth xs i x e ∙ ap (λ k. x ∷ drop k (y ∷ xs)) {x = suc (i + 1)} {y = suc i + 1} (omega arith)
+drop_nth : {X : Type 0} (xs : List X) (i : ℕ) (x : X) → slice_get xs i ≡ Some x → drop i xs ≡ x ∷ drop (i + 1) xs
+drop_nth xs i x e = rw add-one (drop-cons xs i x (slice_get_within xs i x e) ∙ ap (λ y. y ∷ drop (suc i) xs) (get_or_from_slice_get xs i x x e))
 
 -- an account would pass the units that it may hold
 abbrev pub overfull : ℕ → Record → Bool
@@ -34,9 +30,6 @@ pub record LeftToShare (units percentages shared : ℕ) (rs left : List Record) 
   pub percents : percentages + total (λ r. r.percentage) left ≡ total (λ r. r.percentage) rs
   pub gains : shared + shares units left ≡ shares units rs
   pub full : list_any (overfull units) left ≡ list_any (overfull units) rs
-
-pub share_none : (units : ℕ) (rs : List Record) → LeftToShare units 0 0 rs rs
-share_none units rs = record { percents = omega arith; gains = omega arith; full = refl }
 
 module _ (units percentages shared : ℕ) (rs : List Record) (i : ℕ) where
   abbrev pub LeftAt : Type 0
@@ -60,18 +53,14 @@ module _ (units percentages shared : ℕ) (rs : List Record) (i : ℕ) where
   pub past_holding : (r : Record) → slice_get rs i ≡ Some r → LeftAt → overfull units r ≡ true → foreign_to_reading units rs ≡ true
   past_holding r e h o = or_right _ _ (sym (at_record r e h).full ∙ ap (λ b. b || list_any (overfull units) (drop (i + 1) rs)) o)
 
-  pub share_all : length rs ≤ i → LeftAt → percentages ≤ 100000 → (foreign_to_reading units rs ≡ false) × (shared ≡ shares units rs)
-  share_all n h p =
-      let k = subst (LeftToShare units percentages shared rs) (drop_all i rs n) h in
-      (or_from _ _ (le-ltb 100000 (total (λ (x : Record). x.percentage) rs) (omega (arith, k.percents))) (sym k.full), omega (arith, k.gains))
-
 -- where the book is the ledger's own, no account passes what it may hold
-pub not_overfull : (units : ℕ) (rs : List Record) (i : ℕ) (r : Record) → list_any (overfull units) rs ≡ false → slice_get rs i ≡ Some r → overfull units r ≡ false
-not_overfull units [] i r h e = let z : ◌≡◌ {A = ℕ} 0 1 = cc in absurd (omega arith)
-not_overfull units (x ∷ rs) zero r h e =
-    let s : x ≡ r = cc in subst (λ y. overfull units y ≡ false) s (or_parts (overfull units x) (list_any (overfull units) rs) h).0
-not_overfull units (x ∷ rs) (suc i) r h e =
-    not_overfull units rs i r (or_parts (overfull units x) (list_any (overfull units) rs) h).1 e
+not_overfull : (units : ℕ) (rs : List Record) (i : ℕ) (r : Record) → list_any (overfull units) rs ≡ false → slice_get rs i ≡ Some r → overfull units r ≡ false
+not_overfull units rs i r h e =
+    let here = get_or_from_slice_get rs i r r e in
+    ⊎_elim
+    (λ (t : overfull units r ≡ true). absurd (both_ways _ h (list_any_at (overfull units) rs i r (slice_get_within rs i r e) (ap (overfull units) here ∙ t))))
+    (λ (f : overfull units r ≡ false). f)
+    (cases_Bool (overfull units r))
 
 pub gains_in_range : (units : ℕ) (rs : List Record) (i : ℕ) (r : Record) → foreign_to_reading units rs ≡ false → slice_get rs i ≡ Some r → in_range r ≡ true → in_range (gaining units r) ≡ true
 gains_in_range units rs i r h e k =

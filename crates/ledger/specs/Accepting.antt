@@ -3,7 +3,7 @@ use Rattle.std.specs.Prelude.{◌≡◌, ℕ, true, false, cond, List, Some, Non
 use Rattle.std.specs.List.{slice_get}
 use Rattle.accounts.specs.declared.record.Record.{Record}
 use Rattle.accounts.specs.Ranges.{in_range}
-use Rattle.ledger.specs.declared.accepted.Accepted.{Accepted}
+use Rattle.ledger.specs.declared.bill.Bill.{Bill}
 use Rattle.ledger.specs.declared.call.Refusal.{Refusal}
 use Rattle.ledger.specs.declared.call.Refusal.TheVariants.{NoOpenAccount, ForeignBook}
 use Rattle.ledger.specs.declared.entry.Entry.{Entry}
@@ -27,13 +27,13 @@ pub record Changes (gives : Entry → Record → Type 0) (f : Record → Record)
   pub ranged : (i : ℕ) (r : Record) → slice_get rs i ≡ Some r → in_range r ≡ true → in_range (f r) ≡ true
 
 -- the account's record, where it stands and what the bill comes to
-pub record Bills (worth : ℕ → ℕ → ℕ) (period applied account cents : ℕ) (rs : List Record) (x : Accepted) : Type 0 where
+pub record Bills (worth : ℕ → ℕ → ℕ) (period applied account cents : ℕ) (rs : List Record) (x : Bill) : Type 0 where
   pub judged : judge_cents worth period applied account cents rs ≡ Ok x.account.holder
   pub posted : x.posting ≡ posting worth x.account.holder cents
   pub place : Located rs account x.account.place x.account.holder
 
 -- or the refusal
-abbrev pub Judged : (ℕ → ℕ → ℕ) → ℕ → ℕ → ℕ → ℕ → List Record → Result Accepted Refusal → Type 0
+abbrev pub Judged : (ℕ → ℕ → ℕ) → ℕ → ℕ → ℕ → ℕ → List Record → Result Bill Refusal → Type 0
 Judged worth period applied account cents rs (Ok x) = Bills worth period applied account cents rs x
 Judged worth period applied account cents rs (Err why) = judge_cents worth period applied account cents rs ≡ Err why
 

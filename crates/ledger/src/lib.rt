@@ -2,7 +2,7 @@
 // book.
 #![tactic(auto)]
 
-mod accepted;
+mod bill;
 mod bills;
 pub mod call;
 mod calls;

@@ -14,4 +14,4 @@ returns-in-None g c s k fits =
     let l = c.args.line.now in
     let none = sym (c.search.ensures s) ∙ c.in-None.is in
     let taken = c.add.ensures.answer s ∙ ap (takes rs room) c.joining.ensures ∙ takes_joining rs room l k fits (absent l.account rs none) in
-    left_as (c.add.ensures.after s) (ap (λ a. added a rs c.joining.result) taken ∙ ap (added true rs) c.joining.ensures ∙ sym (ap (λ o. enter o rs l) (missing l.account 0 rs none)))
+    left_as (c.add.ensures.after s) (ap (λ a. added a rs c.joining.result) taken ∙ ap (added true rs) c.joining.ensures ∙ sym (ap (λ o. enter o rs l) (missing l.account rs none)))

@@ -5,5 +5,5 @@ use Rattle.ledger.proofs.entries.open_entry.Goals as goal
 
 pub returns-in_err-place : goal.returns-in_err-place
 returns-in_err-place g c s =
-    let none = ap open_of (missing c.args.account 0 _ (sym (c.search.ensures s) ∙ c.in_err-place.ensures.ok_part)) in
+    let none = ap open_of (missing c.args.account _ (sym (c.search.ensures s) ∙ c.in_err-place.ensures.ok_part)) in
     search rules

@@ -1,15 +1,29 @@
-// A bill that is accepted, and what becomes of its account's record.
+// A bill of an account, and what becomes of the account's record.
 ghost use Rattle.std.specs.Prelude.{◌≡◌, ◌*◌, ◌-◌, ◌≤◌};
 ghost use Rattle.ledger.specs.Records.{billed, ended};
-ghost use Rattle.ledger.specs.Rules.{counted};
+ghost use Rattle.ledger.specs.Rules.{counted, net_credit};
+ghost use Rattle.ledger.specs.Steps.{posting};
 
 use super::call::Posting;
 use super::entry::Entry;
 use accounts::record::{Kind, Record, State};
+use crediting::method::CreditMethod;
+
+// What a satellite keeps of an applied credit.
+fn net_credit(entry: Entry, applied: u64) -> u64
+    requires { applied ≤ 1000000000 }
+    ensures value { result ≡ net_credit entry.holder.kind entry.holder.savings applied }
+    ensures part { result ≤ applied }
+{
+    match entry.holder.kind {
+        Kind::Member => applied * u64::from(entry.holder.savings) / 10_000,
+        Kind::Anchor => applied,
+    }
+}
 
 // The account's record, and what the bill comes to.
 #[derive(Clone, Copy)]
-pub(crate) struct Accepted {
+pub(crate) struct Bill {
     pub(crate) account: Entry,
     pub(crate) posting: Posting,
     ghost used: { posting.used ≤ account.holder.held },
@@ -17,7 +31,27 @@ pub(crate) struct Accepted {
     ghost covers: { counted account.holder.kind posting.applied ≤ 50 * posting.fee },
 }
 
-impl Accepted {
+impl Bill {
+    // The bill of an account by a crediting method.
+    pub(crate) fn post<M: CreditMethod>(method: &M, account: Entry, cents: u64) -> Bill
+        requires { cents ≤ 1000000000 }
+        ensures whose { result.account ≡ account }
+        ensures value { result.posting ≡ posting (M.worth method.now) account.holder cents }
+        ensures bound { result.posting.applied ≤ 1000000000 }
+    {
+        let credit = method.credit(account.holder.class, account.holder.held, cents);
+        let net = net_credit(account, credit.applied);
+        Bill {
+            account,
+            posting: Posting {
+                applied: credit.applied,
+                used: credit.used,
+                net,
+                fee: credit.applied - net,
+            },
+        }
+    }
+
     // The part of the applied credit that counts towards the utility fee.
     pub(crate) fn counted(&self) -> u64
         ensures { result ≡ counted self.now.account.holder.kind self.now.posting.applied }
