@@ -79,7 +79,7 @@ fn read_number(line: &mut Reader, what: Expected) -> Result<u64, ParseError>
     Ok(n)
 }
 
-// An account and a number of its own.
+// An account and a number of its own: a pair, since each statement has another word for the number.
 fn read_account_and(line: &mut Reader, what: Expected) -> Result<(u64, u64), ParseError>
     ensures { result ≡ account_and what (words line.old.left.now) }
 {

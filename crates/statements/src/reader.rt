@@ -43,6 +43,7 @@ impl<'a> Reader<'a> {
         if word.is_empty() { None } else { Some(word) }
     }
 
+    // The number that the next word writes, and `most` in the place of a larger one.
     pub fn number(&mut self, what: Expected, most: u64) -> Result<u64, ParseError>
         ensures value { result ≡ number_at what most (first (words self.old.left.now)) }
         ensures left { words self.new.left.now ≡ rest (words self.old.left.now) }
