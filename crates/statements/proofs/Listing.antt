@@ -1,5 +1,5 @@
 -- Rates word by word, and which bytes are text.
-use Rattle.std.proofs.Common.{◌≡◌, ℕ, true, false, List, [], ◌∷◌, ◌++◌, Some, None, Ok, Err, IsUtf8, sym, refl, ap, ◌∙◌, ⊎_elim, arith}
+use Rattle.std.proofs.Common.{◌≡◌, ℕ, true, List, [], ◌∷◌, ◌++◌, Some, None, Ok, Err, IsUtf8, sym, refl, ap, ◌∙◌, ⊎_elim}
 use lib.Utf8.{encodes, scalars}
 use Rattle.std.proofs.lemmas.Slice.Eq.{bytes_eq-Decides}
 use Rattle.std.proofs.lemmas.Bool.{and_from, and_parts, cases_Bool, cond-true, cond-false}
@@ -46,3 +46,7 @@ file_text w u = cond-true (is_text w) (Ok w) (Err (expected File)) (text_is w u)
 pub no_file : (w : List ℕ) → (IsUtf8 w → ⊥) → file_at (Some w) ≡ Err (expected File)
 no_file w f =
     cond-false (is_text w) (Ok w) (Err (expected File)) (⊎_elim (λ h. absurd (f (is_utf8 w h))) (λ h. h) (cases_Bool (is_text w)))
+
+pub ruleset names = (file_text, no_file)
+
+pub ruleset rates = (rates_more, rates_wrong, rates_end)

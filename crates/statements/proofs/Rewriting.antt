@@ -36,7 +36,6 @@ use Rattle.statements.specs.Meanings.{
 }
 use Rattle.statements.specs.Numbers.{number_of}
 use Rattle.statements.specs.Texts.{text_of, method_text, project_text, rate_text, is_word, readable, Written}
-use Rattle.statements.specs.Words.{words}
 use Rattle.statements.proofs.Again.{joined, AreWords, words_joined, decimal_word, number_decimal}
 use Rattle.statements.proofs.Listing.{text_is}
 

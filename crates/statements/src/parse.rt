@@ -79,7 +79,7 @@ fn read_number(line: &mut Reader, what: Expected) -> Result<u64, ParseError>
     Ok(n)
 }
 
-// An account and a number of its own.
+// An account and a number of its own: a pair, since each statement has another word for the number.
 fn read_account_and(line: &mut Reader, what: Expected) -> Result<(u64, u64), ParseError>
     ensures { result ≡ account_and what (words line.old.left.now) }
 {
@@ -89,7 +89,7 @@ fn read_account_and(line: &mut Reader, what: Expected) -> Result<(u64, u64), Par
     Ok((account, n))
 }
 
-#[tactic(auto, using(crate::proofs::Listing::rates_more, crate::proofs::Listing::rates_wrong, crate::proofs::Listing::rates_end))]
+#[tactic(auto, using(crate::proofs::Listing::rates))]
 fn read_rates(line: &mut Reader, heap: Global) -> Result<Vec<u32>, ParseError>
     ensures { Told (λ rates. rates.items) (rates_from [] (words line.old.left.now)) result }
 {

@@ -43,6 +43,7 @@ impl<'a> Reader<'a> {
         if word.is_empty() { None } else { Some(word) }
     }
 
+    // The number that the next word writes, and `most` in the place of a larger one.
     pub fn number(&mut self, what: Expected, most: u64) -> Result<u64, ParseError>
         ensures value { result ≡ number_at what most (first (words self.old.left.now)) }
         ensures left { words self.new.left.now ≡ rest (words self.old.left.now) }
@@ -71,13 +72,13 @@ impl<'a> Reader<'a> {
     }
 
     // A word of text, for a file's name.
-    #[tactic(auto, using(crate::proofs::Listing::file_text, crate::proofs::Listing::no_file))]
+    #[tactic(auto, using(crate::proofs::Listing::names))]
     pub fn text(&mut self) -> Result<&'a str, ParseError>
         ensures value { Told (λ x. x.now) (file_at (first (words self.old.left.now))) result }
         ensures left { words self.new.left.now ≡ rest (words self.old.left.now) }
     {
         let word = self.word().ok_or(ParseError::Expected(Expected::File))?;
-        from_utf8(word).map_err(|_| ParseError::Expected(Expected::File))
+        from_utf8(word).or(Err(ParseError::Expected(Expected::File)))
     }
 
     // That no word is left.

@@ -56,6 +56,7 @@ fn write_line(line: Line, heap: Global) -> Result<String, AllocError>
 }
 
 // A statement's line, without its end. The line of a request is read again only where the file's name is one word.
+// No Display: that the line is read again rests on the range of each number, which is known where the number is read.
 #[tactic(auto, using(crate::proofs::Rewriting::reads_again))]
 pub fn write(statement: &Statement, heap: Global) -> Result<String, AllocError>
     ensures { IfOk result (λ s. Written (meaning statement.now) (string_bytes s)) }
