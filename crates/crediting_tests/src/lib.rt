@@ -8,6 +8,7 @@ mod tests {
     use crediting::rates::RatesRefusal;
     use crediting::value_stack::ValueStack;
     use crediting::volumetric::Volumetric;
+    use refusals::Numbered;
     use std::process::Abort;
 
     // Rate 1 for class 1, 1,000,000 for class 2, and some between.
@@ -15,8 +16,10 @@ mod tests {
         1, 1_000_000, 109_460, 4_000, 1, 1, 1, 1, 1, 1, 1, 1, 1, 1, 1, 109_015,
     ];
 
-    // class, units, bill, and the applied credit and units used to expect
-    const VOLUMETRIC: [(u8, u64, u64, u64, u64); 27] = [
+    // class, units, bill, and the applied credit and units used to expect: a tuple, which keeps most cases to one line
+    type Case = (u8, u64, u64, u64, u64);
+
+    const VOLUMETRIC: [Case; 27] = [
         (1, 0, 0, 0, 0),
         (1, 0, 1_000_000_000, 0, 0),
         (1, 1, 1, 0, 0),
@@ -70,7 +73,7 @@ mod tests {
         (255, 1_000_000_000_000, 1_000_000_000, 0, 0),
     ];
 
-    const VALUE_STACK: [(u8, u64, u64, u64, u64); 11] = [
+    const VALUE_STACK: [Case; 11] = [
         (1, 0, 0, 0, 0),
         (1, 0, 1_000_000_000, 0, 0),
         (1, 1, 0, 0, 0),
@@ -105,36 +108,33 @@ mod tests {
         (17, 5, 0, 0),
     ];
 
-    fn check_credits<M: CreditMethod>(
-        rt: &impl Abort,
-        method: &M,
-        cases: &[(u8, u64, u64, u64, u64)],
-    ) {
-        for (class, units, bill, applied, used) in cases {
-            let credit = Credit {
-                applied: *applied,
-                used: *used,
-            };
-            assert_eq!(rt; method.credit(*class, *units, *bill), credit);
+    fn rated() -> Result<Volumetric, RatesRefusal> {
+        let mut method = Volumetric::new();
+        method.set_rates(&RATES)?;
+        Ok(method)
+    }
+
+    fn check_credits<M: CreditMethod>(rt: &impl Abort, method: &M, cases: &[Case]) {
+        for &(class, units, bill, applied, used) in cases {
+            assert_eq!(rt; method.credit(class, units, bill), Credit { applied, used });
         }
     }
 
     #[test]
-    fn credits(rt: HostRuntime) {
-        let mut method = Volumetric::new();
-        assert_eq!(rt; method.set_rates(&RATES), Ok(()));
-        check_credits(&rt, &method, &VOLUMETRIC);
+    fn credits(rt: HostRuntime) -> Result<(), RatesRefusal> {
+        check_credits(&rt, &rated()?, &VOLUMETRIC);
         check_credits(&rt, &ValueStack, &VALUE_STACK);
+        Ok(())
     }
 
     #[test]
-    fn worths(rt: HostRuntime) {
-        let mut method = Volumetric::new();
-        assert_eq!(rt; method.set_rates(&RATES), Ok(()));
-        for (class, units, kilowatt_hours, cents) in &WORTHS {
-            assert_eq!(rt; method.worth(*class, *units), *kilowatt_hours);
-            assert_eq!(rt; ValueStack.worth(*class, *units), *cents);
+    fn worths(rt: HostRuntime) -> Result<(), RatesRefusal> {
+        let method = rated()?;
+        for (class, units, kilowatt_hours, cents) in WORTHS {
+            assert_eq!(rt; method.worth(class, units), kilowatt_hours);
+            assert_eq!(rt; ValueStack.worth(class, units), cents);
         }
+        Ok(())
     }
 
     #[test]
@@ -150,9 +150,8 @@ mod tests {
     }
 
     #[test]
-    fn refused_rates(rt: HostRuntime) {
-        let mut method = Volumetric::new();
-        assert_eq!(rt; method.set_rates(&RATES), Ok(()));
+    fn refused_rates(rt: HostRuntime) -> Result<(), RatesRefusal> {
+        let mut method = rated()?;
         assert_eq!(rt; method.set_rates(&[]), Err(RatesRefusal::WrongCount));
         assert_eq!(rt;
             method.set_rates(&RATES[0..15]),
@@ -177,13 +176,18 @@ mod tests {
         assert_eq!(rt; method.rate(1), Some(1));
         assert_eq!(rt; method.rate(2), Some(1_000_000));
         assert_eq!(rt; method.rate(16), Some(109_015));
+        Ok(())
+    }
+
+    fn mark_of<M: CreditMethod>(_: &M) -> u8 {
+        M::MARK
     }
 
     #[test]
     fn marks(rt: HostRuntime) {
         assert_eq!(rt; <ValueStack as CreditMethod>::MARK, b'C');
         assert_eq!(rt; <Volumetric as CreditMethod>::MARK, b'K');
-        assert_eq!(rt; <ValueStack as CreditMethod>::letter(), b'C');
-        assert_eq!(rt; <Volumetric as CreditMethod>::letter(), b'K');
+        assert_eq!(rt; mark_of(&ValueStack), b'C');
+        assert_eq!(rt; mark_of(&Volumetric::new()), b'K');
     }
 }

@@ -1,6 +1,7 @@
 -- A book in an image that is lent to it.
-use Rattle.std.specs.Prelude.{◌≡◌, ℕ, ◌+◌, Bool, cond, List}
+use Rattle.std.specs.Prelude.{◌≡◌, ℕ, ◌+◌, Bool, cond, List, [], ◌∷◌}
 use Rattle.accounts.specs.declared.record.Record.{Record}
+use Rattle.accounts.specs.Books.{Contents}
 use Rattle.record_codec.specs.Bytes.{le, written}
 use Rattle.record_codec.specs.Codec.{encoded}
 use Rattle.image_book.specs.Images.{start_of, held}
@@ -20,6 +21,9 @@ records_of b = held b.count (image_of b)
 
 abbrev pub room_of : ImageBook → ℕ
 room_of b = b.room
+
+abbrev pub contents_of : ImageBook → Contents
+contents_of b = record { records = records_of b; room = room_of b; side = []; loans = loan_of b ∷ [] }
 
 -- a proper book that its image, opened again, gives back
 abbrev pub Sound : ImageBook → Type 0

@@ -4,7 +4,7 @@ ghost use Rattle.std.specs.List.{slice_get};
 ghost use Rattle.accounts.specs.Books.{accounts, find, present, takes, added, suits, replaced, Left};
 ghost use Rattle.image_book.specs.Images.{capacity_of};
 ghost use Rattle.image_book.specs.Reading.{opened_count, opened_room, started, started_room};
-ghost use Rattle.image_book.specs.Holding.{image_of, loan_of, records_of, room_of, Sound, ComesBack, Added, Replaced};
+ghost use Rattle.image_book.specs.Holding.{image_of, loan_of, records_of, room_of, contents_of, Sound, ComesBack, Added, Replaced};
 
 use crate::layout;
 use crate::making::{begin, measure};
@@ -88,7 +88,7 @@ impl<'a> ImageBook<'a> {
     fn push(&mut self, new: Record)
         requires { self.old.count < capacity_of (image_of self.old) }
         ensures image { Added true self.new self.old new }
-        ensures after { Sound self.old → takes (records_of self.old) (room_of self.old) new ≡ true → Left (Sound self.new) (records_of self.new) (records_of self.old ++ new ∷ []) (room_of self.new) (room_of self.old) [] [] (loan_of self.new ∷ []) (loan_of self.old ∷ []) }
+        ensures after { Sound self.old → takes (records_of self.old) (room_of self.old) new ≡ true → Left (Sound self.new) (contents_of self.new) (contents_of self.old) (records_of self.old ++ new ∷ []) }
     {
         let place = self.count;
         let at = layout::start(place);
@@ -101,7 +101,7 @@ impl<'a> ImageBook<'a> {
     fn put(&mut self, place: usize, new: Record)
         requires { place < capacity_of (image_of self.old) }
         ensures image { Replaced true self.new self.old place new }
-        ensures after { Sound self.old → suits (records_of self.old) place new ≡ true → Left (Sound self.new) (records_of self.new) (slice_set (records_of self.old) place new) (room_of self.new) (room_of self.old) [] [] (loan_of self.new ∷ []) (loan_of self.old ∷ []) }
+        ensures after { Sound self.old → suits (records_of self.old) place new ≡ true → Left (Sound self.new) (contents_of self.new) (contents_of self.old) (slice_set (records_of self.old) place new) }
     {
         let at = layout::start(place);
         layout::put(self.image, at, &encode(&new));
@@ -109,13 +109,7 @@ impl<'a> ImageBook<'a> {
 }
 
 impl<'a> AccountBook for ImageBook<'a> {
-    ghost records = { records_of };
-
-    ghost room = { room_of };
-
-    ghost side = { λ b. [] };
-
-    ghost loans = { λ b. loan_of b ∷ [] };
+    ghost contents = { contents_of };
 
     ghost sound = { Sound };
 
@@ -139,7 +133,7 @@ impl<'a> AccountBook for ImageBook<'a> {
 
     fn add(&mut self, new: Record) -> bool
         ensures answer { Sound self.old → result ≡ takes (records_of self.old) (room_of self.old) new }
-        ensures after { Sound self.old → Left (Sound self.new) (records_of self.new) (added result (records_of self.old) new) (room_of self.new) (room_of self.old) [] [] (loan_of self.new ∷ []) (loan_of self.old ∷ []) }
+        ensures after { Sound self.old → Left (Sound self.new) (contents_of self.new) (contents_of self.old) (added result (records_of self.old) new) }
         ensures image { Added result self.new self.old new }
     {
         if self.count >= self.places() {
@@ -157,7 +151,7 @@ impl<'a> AccountBook for ImageBook<'a> {
 
     fn replace(&mut self, place: usize, new: Record) -> bool
         ensures answer { Sound self.old → result ≡ suits (records_of self.old) place new }
-        ensures after { Sound self.old → Left (Sound self.new) (records_of self.new) (replaced result (records_of self.old) place new) (room_of self.new) (room_of self.old) [] [] (loan_of self.new ∷ []) (loan_of self.old ∷ []) }
+        ensures after { Sound self.old → Left (Sound self.new) (contents_of self.new) (contents_of self.old) (replaced result (records_of self.old) place new) }
         ensures image { Replaced result self.new self.old place new }
     {
         if !new.in_range() {

@@ -1,5 +1,6 @@
 -- A book with hints of the places of its records.
-use Rattle.std.specs.Prelude.{◌≡◌, ℕ, ◌+◌, ◌%◌, ◌^◌, ◌<◌, Bool, false, cond, List, Some, None, Option, ◌==◌}
+use Rattle.std.specs.Prelude.{◌≡◌, ℕ, ◌+◌, ◌%◌, ◌^◌, ◌<◌, Bool, false, cond, List, ◌∷◌, Some, None, Option, ◌==◌}
+use Rattle.accounts.specs.Books.{Contents}
 use Rattle.indexed_book.specs.declared.IndexedBook.{IndexedBook}
 
 -- what a free slot holds
@@ -25,6 +26,10 @@ hints_of b = b.hints.now
 -- the loan of the book, so that what is known of it here is known to the lender when the hints are gone
 abbrev pub loan_of : {B : Type 0} → IndexedBook B → ℕ
 loan_of b = b.book.ghost_name
+
+-- what a book shows through its hints: the loan of the book is one more
+abbrev pub contents_with : ℕ → Contents → Contents
+contents_with loan contents = record contents { loans = loan ∷ contents.loans }
 
 -- whether what is found is a place
 abbrev pub is_at : Option ℕ → ℕ → Bool

@@ -3,7 +3,7 @@
 
 ghost use Rattle.std.specs.Prelude.{◌≡◌, ℕ, ◌<◌, ◌∷◌, length, MatchOption, ◌≢◌, slice_index};
 ghost use Rattle.accounts.specs.Books.{accounts, find, takes, added, Left};
-ghost use Rattle.indexed_book.specs.Hints.{no_place, told, Slot, book_of, hints_of, loan_of, is_at, or_else};
+ghost use Rattle.indexed_book.specs.Hints.{no_place, told, Slot, book_of, hints_of, loan_of, contents_with, is_at, or_else};
 
 use accounts::book::AccountBook;
 use accounts::record::Record;
@@ -98,13 +98,7 @@ impl<'a, 'h, B: AccountBook> IndexedBook<'a, 'h, B> {
 }
 
 impl<'a, 'h, B: AccountBook> AccountBook for IndexedBook<'a, 'h, B> {
-    ghost records = { λ b. B.AccountBook.records (book_of b) };
-
-    ghost room = { λ b. B.AccountBook.room (book_of b) };
-
-    ghost side = { λ b. B.AccountBook.side (book_of b) };
-
-    ghost loans = { λ b. loan_of b ∷ B.AccountBook.loans (book_of b) };
+    ghost contents = { λ b. contents_with (loan_of b) (B.AccountBook.contents (book_of b)) };
 
     ghost sound = { λ b. B.AccountBook.sound (book_of b) };
 

@@ -5,22 +5,20 @@
 mod enrolments;
 mod files;
 mod foreign;
+mod group;
 mod images;
+mod patch;
 mod periods;
 mod postings;
 mod stage;
 mod steps;
 mod told;
 
-fn run(rt: &HostRuntime) -> anyhow::Result<()> {
-    files::cases(rt)?;
-    images::cases(rt)?;
-    enrolments::cases(rt)?;
-    periods::cases(rt)?;
-    foreign::cases(rt)?;
-    postings::cases(rt)
-}
-
 fn main(rt: HostRuntime) -> anyhow::Result<()> {
-    run(&rt)
+    files::cases(&rt)?;
+    images::cases(&rt)?;
+    enrolments::cases(&rt)?;
+    periods::cases(&rt)?;
+    foreign::cases(&rt)?;
+    postings::cases(&rt)
 }

@@ -1,39 +1,35 @@
 // Four ways in which a posting goes astray, and does not here.
-use super::stage::on_both;
-use super::steps::{
-    Act, Method, Step, bill, declined, declined_at, ended, expects, line, one, posted, settled,
-    three, two,
-};
-use super::told::{Told, show};
+use super::group::Group;
+use super::stage::{EXEMPT, on_both};
+use super::steps::{Act, Billing, Method, Step, bill, expects, line, one, three, two};
+use super::told::{Fact, amount, declined, declined_at, ended, posted, settled};
 use accounts::record::{Kind, Line};
 use cases::worked_postings;
 
 fn rated_bill(rate: u32, cents: u64) -> Act {
-    Act::Bill {
-        method: Method::Volumetric { rate },
-        account: 1,
-        cents,
-    }
+    Act::Post(
+        Method::Volumetric { rate },
+        Billing::Monthly { account: 1, cents },
+    )
 }
 
 fn rated_last_bill(rate: u32, cents: u64) -> Act {
-    Act::FinalBill {
-        method: Method::Volumetric { rate },
-        account: 1,
-        cents,
-    }
+    Act::Post(
+        Method::Volumetric { rate },
+        Billing::Final { account: 1, cents },
+    )
 }
 
 // At 0.4 cents, 9 kilowatt-hours are worth 3 cents. A cent takes 3 of them, and 6 are left. Had the 2 cents left over been
 // turned back into kilowatt-hours, 5 would be left, and one of the 9 would have vanished. Used and forfeited are 9.
 fn units_stay() -> [Step; 7] {
     [
-        expects("all to account 1", one(line(1, 100_000)), Told::Amount(1)),
-        expects("reading of 9", Act::Read(9), Told::Amount(1)),
+        expects("all to account 1", one(line(1, 100_000)), amount(1)),
+        expects("reading of 9", Act::Read(9), amount(1)),
         expects("a bill of a cent", rated_bill(4_000, 1), posted(1, 3, 0, 1)),
-        expects("left", Act::Held { account: 1 }, Told::Amount(6)),
+        expects("left", Act::Held { account: 1 }, amount(6)),
         expects("close", Act::Close, settled(1, 1, 0, 1)),
-        expects("reading of none", Act::Read(0), Told::Amount(2)),
+        expects("reading of none", Act::Read(0), amount(2)),
         expects(
             "final bill",
             rated_last_bill(4_000, 900),
@@ -50,12 +46,8 @@ fn cents_stay() -> [Step; 5] {
         ..line(2, 50_000)
     };
     [
-        expects(
-            "half and half",
-            two(line(1, 50_000), thrifty),
-            Told::Amount(2),
-        ),
-        expects("reading of 14910", Act::Read(14_910), Told::Amount(1)),
+        expects("half and half", two(line(1, 50_000), thrifty), amount(2)),
+        expects("reading of 14910", Act::Read(14_910), amount(1)),
         expects(
             "savings of 10 percent",
             bill(1, 7_455),
@@ -73,14 +65,14 @@ fn fee_of_the_sum() -> [Step; 11] {
         expects(
             "three accounts",
             three(line(1, 30_000), line(2, 30_000), line(3, 30_000)),
-            Told::Amount(3),
+            amount(3),
         ),
-        expects("reading", Act::Read(1_000), Told::Amount(1)),
+        expects("reading", Act::Read(1_000), amount(1)),
         expects("33 cents", bill(1, 33), posted(33, 33, 3, 30)),
         expects("33 cents", bill(2, 33), posted(33, 33, 3, 30)),
         expects("33 cents", bill(3, 33), posted(33, 33, 3, 30)),
         expects("close", Act::Close, settled(99, 90, 1, 89)),
-        expects("reading", Act::Read(0), Told::Amount(2)),
+        expects("reading", Act::Read(0), amount(2)),
         expects("34 cents", bill(1, 34), posted(34, 34, 3, 31)),
         expects("34 cents", bill(2, 34), posted(34, 34, 3, 31)),
         expects("34 cents", bill(3, 34), posted(34, 34, 3, 31)),
@@ -95,12 +87,8 @@ fn fee_of_the_credits() -> [Step; 6] {
         ..line(2, 50_000)
     };
     [
-        expects(
-            "member and anchor",
-            two(line(1, 50_000), anchor),
-            Told::Amount(2),
-        ),
-        expects("reading of 1362", Act::Read(1_362), Told::Amount(1)),
+        expects("member and anchor", two(line(1, 50_000), anchor), amount(2)),
+        expects("reading of 1362", Act::Read(1_362), amount(1)),
         expects(
             "member",
             rated_bill(109_460, 20_000),
@@ -108,20 +96,20 @@ fn fee_of_the_credits() -> [Step; 6] {
         ),
         expects("anchor", bill(2, 20_000), posted(681, 681, 681, 0)),
         expects("close", Act::Close, settled(7_454, 6_709, 112, 6_597)),
-        expects("bank", Act::Bank, Told::Amount(0)),
+        expects("bank", Act::Bank, amount(0)),
     ]
 }
 
 fn half_cents() -> [Step; 8] {
     [
-        expects("all to account 1", one(line(1, 100_000)), Told::Amount(1)),
-        expects("reading", Act::Read(1_000), Told::Amount(1)),
+        expects("all to account 1", one(line(1, 100_000)), amount(1)),
+        expects("reading", Act::Read(1_000), amount(1)),
         expects("33 cents", bill(1, 33), posted(33, 33, 3, 30)),
         expects("close of 33 cents", Act::Close, settled(33, 30, 0, 30)),
-        expects("reading", Act::Read(0), Told::Amount(2)),
+        expects("reading", Act::Read(0), amount(2)),
         expects("34 cents", bill(1, 34), posted(34, 34, 3, 31)),
         expects("close of 34 cents", Act::Close, settled(34, 31, 1, 30)),
-        expects("left", Act::Held { account: 1 }, Told::Amount(933)),
+        expects("left", Act::Held { account: 1 }, amount(933)),
     ]
 }
 
@@ -132,57 +120,49 @@ fn nothing_of_a_refused_request() -> [Step; 9] {
         ..line(4, 1)
     };
     [
-        expects("60 percent", one(line(1, 60_000)), Told::Amount(1)),
+        expects("60 percent", one(line(1, 60_000)), amount(1)),
         expects(
             "last line out of range",
             three(line(2, 1), line(1, 7), faulty),
             declined_at(13, 2),
         ),
-        expects("records", Act::Records, Told::Amount(1)),
-        expects(
-            "percentage",
-            Act::Percentage { account: 1 },
-            Told::Amount(60_000),
-        ),
+        expects("records", Act::Records, amount(1)),
+        expects("percentage", Act::Percentage { account: 1 }, amount(60_000)),
         expects(
             "last line repeated",
             three(line(2, 1), line(1, 7), line(2, 1)),
             declined_at(14, 2),
         ),
-        expects("records", Act::Records, Told::Amount(1)),
+        expects("records", Act::Records, amount(1)),
         expects(
             "percentages pass",
             three(line(2, 1), line(1, 7), line(3, 100_000)),
             declined(16),
         ),
-        expects("records", Act::Records, Told::Amount(1)),
-        expects(
-            "percentage",
-            Act::Percentage { account: 1 },
-            Told::Amount(60_000),
-        ),
+        expects("records", Act::Records, amount(1)),
+        expects("percentage", Act::Percentage { account: 1 }, amount(60_000)),
     ]
 }
 
 pub fn cases(rt: &HostRuntime) -> anyhow::Result<()> {
-    let worked = Told::Posted(worked_postings());
-    show(
+    let group = Group {
         rt,
-        "worked",
+        title: "worked",
+    };
+    group.show(
         "681 at 10.946 cents",
         posted(7_454, 681, 745, 6_709),
-        worked,
+        Ok(Fact::Posted(worked_postings())),
     )?;
-    on_both(rt, "units stay", 1, false, &units_stay())?;
-    on_both(rt, "cents stay", 1, false, &cents_stay())?;
-    on_both(rt, "fee of the sum", 1, false, &fee_of_the_sum())?;
-    on_both(rt, "fee of the credits", 1, false, &fee_of_the_credits())?;
-    on_both(rt, "half cents", 1, false, &half_cents())?;
+    on_both(rt, "units stay", EXEMPT, &units_stay())?;
+    on_both(rt, "cents stay", EXEMPT, &cents_stay())?;
+    on_both(rt, "fee of the sum", EXEMPT, &fee_of_the_sum())?;
+    on_both(rt, "fee of the credits", EXEMPT, &fee_of_the_credits())?;
+    on_both(rt, "half cents", EXEMPT, &half_cents())?;
     on_both(
         rt,
         "refused request",
-        1,
-        false,
+        EXEMPT,
         &nothing_of_a_refused_request(),
     )
 }

@@ -1,14 +1,13 @@
-// What a case tells, and a refusal's number and place.
-ghost use Rattle.std.specs.Prelude.{◌≡◌};
-ghost use Rattle.ledger.specs.Refusals.{number, place};
+// What a case tells: a fact, or a refusal by its number and place.
+use ledger::call::{Done, Posting, Settlement};
+use refusals::Numbered;
+use std::fmt;
 
-use ledger::call::{Done, Posting, Refusal, Settlement};
-use std::{fmt, io};
+pub type Told = Result<Fact, Refused>;
 
-#[derive(Clone, Copy, PartialEq, Drop)]
-pub enum Told {
+#[derive(Clone, Copy, PartialEq)]
+pub enum Fact {
     Accepted,
-    Refused { number: u8, place: usize },
     // new accounts, the period, the bank, a forfeit, or what is looked up
     Amount(u64),
     Posted(Posting),
@@ -16,18 +15,119 @@ pub enum Told {
     Settled(Settlement),
 }
 
-impl fmt::Display for Told {
+#[derive(Clone, Copy, PartialEq)]
+pub struct Refused {
+    pub number: u8,
+    pub place: usize,
+}
+
+impl From<()> for Fact {
+    fn from(_: ()) -> Fact {
+        Fact::Accepted
+    }
+}
+
+impl From<u32> for Fact {
+    fn from(amount: u32) -> Fact {
+        Fact::Amount(u64::from(amount))
+    }
+}
+
+impl From<u64> for Fact {
+    fn from(amount: u64) -> Fact {
+        Fact::Amount(amount)
+    }
+}
+
+impl From<usize> for Fact {
+    fn from(amount: usize) -> Fact {
+        Fact::Amount(amount as u64)
+    }
+}
+
+impl From<Done> for Fact {
+    fn from(done: Done) -> Fact {
+        match done {
+            Done::Enrolled { new } => Fact::from(new),
+            Done::Opened { period } => Fact::from(period),
+            Done::Billed(posting) => Fact::Posted(posting),
+            Done::FinallyBilled { posting, forfeited } => Fact::Ended { posting, forfeited },
+            Done::Disbursed { bank } => Fact::Amount(bank),
+            Done::Lapsed { forfeited } => Fact::Amount(forfeited),
+            Done::Closed(settlement) => Fact::Settled(settlement),
+        }
+    }
+}
+
+impl<R: Numbered + Drop> From<R> for Refused {
+    fn from(why: R) -> Refused {
+        Refused {
+            number: why.number(),
+            place: why.place(),
+        }
+    }
+}
+
+// What an answer tells.
+pub fn told<T: Into<Fact>, R: Numbered + Drop>(answer: Result<T, R>) -> Told {
+    Ok(answer?.into())
+}
+
+pub const ACCEPTED: Told = Ok(Fact::Accepted);
+
+pub fn amount(amount: u64) -> Told {
+    Ok(Fact::Amount(amount))
+}
+
+pub fn posted(applied: u64, used: u64, net: u64, fee: u64) -> Told {
+    Ok(Fact::Posted(Posting {
+        applied,
+        used,
+        net,
+        fee,
+    }))
+}
+
+pub fn ended(applied: u64, used: u64, net: u64, fee: u64, forfeited: u64) -> Told {
+    Ok(Fact::Ended {
+        posting: Posting {
+            applied,
+            used,
+            net,
+            fee,
+        },
+        forfeited,
+    })
+}
+
+pub fn settled(applied: u64, fees: u64, utility: u64, payment: u64) -> Told {
+    Ok(Fact::Settled(Settlement {
+        applied,
+        fees,
+        utility,
+        payment,
+    }))
+}
+
+pub fn declined(number: u8) -> Told {
+    declined_at(number, 0)
+}
+
+pub fn declined_at(number: u8, place: usize) -> Told {
+    Err(Refused { number, place })
+}
+
+impl fmt::Display for Fact {
     fn fmt<W: fmt::Write>(&self, f: &mut fmt::Formatter<W>) -> fmt::Result {
         match self {
-            Told::Accepted => write!(f, "accepted"),
-            Told::Refused { number, place } => write!(f, "refused {number} at {place}"),
-            Told::Amount(amount) => write!(f, "{amount}"),
-            Told::Posted(posting) => post_text(posting, f),
-            Told::Ended { posting, forfeited } => {
-                post_text(posting, f)?;
+            Fact::Accepted => write!(f, "accepted"),
+            Fact::Amount(amount) => write!(f, "{amount}"),
+            Fact::Posted(posting) => write_posting(posting, f),
+            Fact::Ended { posting, forfeited } => {
+                write_posting(posting, f)?;
                 write!(f, ", forfeited {forfeited}")
             }
-            Told::Settled(settlement) => {
+            Fact::Settled(settlement) => {
                 let Settlement {
                     applied,
                     fees,
@@ -43,7 +143,7 @@ impl fmt::Display for Told {
     }
 }
 
-fn post_text<W: fmt::Write>(posting: &Posting, f: &mut fmt::Formatter<W>) -> fmt::Result {
+fn write_posting<W: fmt::Write>(posting: &Posting, f: &mut fmt::Formatter<W>) -> fmt::Result {
     let Posting {
         applied,
         used,
@@ -53,74 +153,8 @@ fn post_text<W: fmt::Write>(posting: &Posting, f: &mut fmt::Formatter<W>) -> fmt
     write!(f, "applied {applied}, used {used}, net {net}, fee {fee}")
 }
 
-fn refusal_number(why: Refusal) -> u8
-    ensures { result ≡ number why }
-{
-    match why {
-        Refusal::WrongSmallest => 9,
-        Refusal::BookHasRecords => 10,
-        Refusal::InPeriod => 11,
-        Refusal::WrongLineCount => 12,
-        Refusal::LineOutOfRange { .. } => 13,
-        Refusal::AccountRepeated { .. } => 14,
-        Refusal::LineOfClosedAccount { .. } => 15,
-        Refusal::PercentagesPass => 16,
-        Refusal::LargePercentagesPass => 17,
-        Refusal::BookTooSmall => 18,
-        Refusal::PeriodsOver => 19,
-        Refusal::ReadingTooLarge => 20,
-        Refusal::ReadingsPass => 21,
-        Refusal::BetweenPeriods => 22,
-        Refusal::BillTooLarge => 23,
-        Refusal::NoOpenAccount => 24,
-        Refusal::BilledAlready => 25,
-        Refusal::NotInBank => 26,
-        Refusal::ForeignBook => 27,
-    }
-}
-
-fn refusal_place(why: Refusal) -> usize
-    ensures { result ≡ place why }
-{
-    match why {
-        Refusal::LineOutOfRange { place } => place,
-        Refusal::AccountRepeated { place } => place,
-        Refusal::LineOfClosedAccount { place } => place,
-        _ => 0,
-    }
-}
-
-pub fn refused(why: Refusal) -> Told {
-    Told::Refused {
-        number: refusal_number(why),
-        place: refusal_place(why),
-    }
-}
-
-pub fn answered(answer: Result<Done, Refusal>) -> Told {
-    match answer {
-        Err(why) => refused(why),
-        Ok(Done::Enrolled { new }) => Told::Amount(new as u64),
-        Ok(Done::Opened { period }) => Told::Amount(u64::from(period)),
-        Ok(Done::Billed(posting)) => Told::Posted(posting),
-        Ok(Done::FinallyBilled { posting, forfeited }) => Told::Ended { posting, forfeited },
-        Ok(Done::Disbursed { bank }) => Told::Amount(bank),
-        Ok(Done::Lapsed { forfeited }) => Told::Amount(forfeited),
-        Ok(Done::Closed(settlement)) => Told::Settled(settlement),
-    }
-}
-
-// Prints what came, and whether it is what was expected.
-pub fn show(
-    rt: &HostRuntime,
-    group: &str,
-    name: &str,
-    expected: Told,
-    came: Told,
-) -> io::Result<()> {
-    if came == expected {
-        println!(rt; "{group}: {name}: {came} ok")
-    } else {
-        println!(rt; "{group}: {name}: {came}, expected {expected}, differs")
+impl fmt::Display for Refused {
+    fn fmt<W: fmt::Write>(&self, f: &mut fmt::Formatter<W>) -> fmt::Result {
+        write!(f, "refused {} at {}", self.number, self.place)
     }
 }

@@ -3,7 +3,8 @@
 #![tactic(auto)]
 
 use accounts::book::AccountBook;
-use accounts::record::{Kind, Line, Record, Size, State};
+use accounts::project::Project;
+use accounts::record::{Kind, Line, Record, Size};
 use answer_text::answers::answer_line;
 use answer_text::books::{account_line, ledger_line};
 use answer_text::refusals::declined_line;
@@ -25,16 +26,9 @@ const FLAT: u64 = 20_010_000_002;
 
 const MILL: u64 = 20_010_000_003;
 
-const BLANK: Record = Record {
-    account: 0,
-    percentage: 0,
-    savings: 0,
-    class: 0,
-    size: Size::Small,
-    kind: Kind::Member,
-    state: State::Open,
-    held: 0,
-    last: 0,
+const EXEMPT: Project = Project {
+    smallest: 1,
+    farm: false,
 };
 
 fn line(account: u64, percentage: u32, kind: Kind) -> Line {
@@ -50,11 +44,12 @@ fn line(account: u64, percentage: u32, kind: Kind) -> Line {
 
 // Two members and an anchor.
 fn request(heap: Global) -> Result<Vec<Line>, AllocError> {
-    let mut lines = Vec::new(heap);
-    lines.push(line(SHOP, 40_000, Kind::Member))?;
-    lines.push(line(FLAT, 35_500, Kind::Member))?;
-    lines.push(line(MILL, 20_000, Kind::Anchor))?;
-    Ok(lines)
+    let lines = [
+        line(SHOP, 40_000, Kind::Member),
+        line(FLAT, 35_500, Kind::Member),
+        line(MILL, 20_000, Kind::Anchor),
+    ];
+    lines.to_vec(heap)
 }
 
 fn bill<M>(method: M, account: u64, cents: u64) -> Call<M> {
@@ -65,7 +60,8 @@ fn bill<M>(method: M, account: u64, cents: u64) -> Call<M> {
     }
 }
 
-// The first month: an account is billed twice over.
+// The first month: an account is billed twice over. The calls are put one by one, since an array of them is not known to
+// fit in memory for every type of method.
 fn first_month<M: Copy>(
     calls: &mut Vec<Call<M>>,
     method: M,
@@ -118,7 +114,7 @@ fn print_answers<M>(
     calls: &[Call<M>],
     said: &[Result<Done, Refusal>],
 ) -> anyhow::Result<()> {
-    for (call, answer) in calls.iter().zip(said.iter()) {
+    for (call, answer) in calls.iter().zip(said) {
         let text = answer_line(word(call), *answer, rt.alloc())?;
         println!(rt; "{text}")?;
     }
@@ -126,29 +122,25 @@ fn print_answers<M>(
 }
 
 fn print_accounts<B: AccountBook>(rt: &HostRuntime, book: &B) -> anyhow::Result<()> {
-    for place in 0..book.count() {
-        if let Some(record) = book.get(place) {
-            let text = account_line(record, rt.alloc())?;
-            println!(rt; "{text}")?;
-        }
+    for record in (0..book.count()).filter_map(|place| book.get(place)) {
+        let text = account_line(record, rt.alloc())?;
+        println!(rt; "{text}")?;
     }
     Ok(())
 }
 
 fn post<M: CreditMethod + Copy, B: AccountBook>(
     rt: &HostRuntime,
-    title: &str,
     method: M,
     book: &mut B,
 ) -> anyhow::Result<()> {
     let heap = rt.alloc();
-    println!(rt; "{title}")?;
     let mut calls = Vec::new(heap);
     first_month(&mut calls, method, heap)?;
     second_month(&mut calls, method)?;
     let mut ledger = Ledger::new();
-    match run(&mut ledger, 1, false, book, calls.as_slice(), heap) {
-        Ok(said) => print_answers(rt, calls.as_slice(), said.as_slice())?,
+    match run(&mut ledger, EXEMPT, book, &calls, heap) {
+        Ok(said) => print_answers(rt, &calls, &said)?,
         Err(RunRefusal::NotOpened(why)) => {
             let text = declined_line("open", why, heap)?;
             println!(rt; "{text}")?;
@@ -160,47 +152,24 @@ fn post<M: CreditMethod + Copy, B: AccountBook>(
     print_accounts(rt, book)
 }
 
-// Value Stack in a table and in an image.
-fn post_cents(rt: &HostRuntime) -> anyhow::Result<()> {
-    let mut table = [BLANK; 4];
-    post(
-        rt,
-        "# Value Stack, table",
-        ValueStack,
-        &mut TableBook::new(&mut table),
-    )?;
+// In a table and in an image.
+fn post_both<M: CreditMethod + Copy>(
+    rt: &HostRuntime,
+    title: &str,
+    method: M,
+) -> anyhow::Result<()> {
+    println!(rt; "# {title}, table")?;
+    let mut table = [Record::default(); 4];
+    post(rt, method, &mut TableBook::new(&mut table))?;
+    println!(rt; "# {title}, image")?;
     let mut image = [0u8; 112];
-    post(
-        rt,
-        "# Value Stack, image",
-        ValueStack,
-        &mut ImageBook::start(&mut image),
-    )
+    post(rt, method, &mut ImageBook::start(&mut image))
 }
 
-// Volumetric at 10.946 cents for every class, in a table and in an image.
-fn post_kilowatt_hours(rt: &HostRuntime) -> anyhow::Result<()> {
-    let mut method = Volumetric::new();
-    if method.set_rates(&[109_460; 16]).is_err() {
-        return Err(anyhow!("the rates are refused"));
-    }
-    let mut table = [BLANK; 4];
-    post(
-        rt,
-        "# volumetric, table",
-        method,
-        &mut TableBook::new(&mut table),
-    )?;
-    let mut image = [0u8; 112];
-    post(
-        rt,
-        "# volumetric, image",
-        method,
-        &mut ImageBook::start(&mut image),
-    )
-}
-
+// Volumetric is at 10.946 cents for every class.
 fn main(rt: HostRuntime) -> anyhow::Result<()> {
-    post_cents(&rt)?;
-    post_kilowatt_hours(&rt)
+    post_both(&rt, "Value Stack", ValueStack)?;
+    let mut method = Volumetric::new();
+    method.set_rates(&[109_460; 16])?;
+    post_both(&rt, "volumetric", method)
 }

@@ -1,10 +1,10 @@
 -- A book in a table of records that is lent to it.
-use Rattle.std.specs.Prelude.{◌≡◌, ℕ, ◌+◌, ◌≤◌, min, Bool, cond, List, length, take, slice_set}
+use Rattle.std.specs.Prelude.{◌≡◌, ℕ, ◌+◌, ◌≤◌, min, Bool, cond, List, [], ◌∷◌, length, take, slice_set}
 use Rattle.accounts.specs.declared.record.Size.TheVariants.{Small}
 use Rattle.accounts.specs.declared.record.Kind.TheVariants.{Member}
 use Rattle.accounts.specs.declared.record.State.TheVariants.{Open}
 use Rattle.accounts.specs.declared.record.Record.{Record}
-use Rattle.accounts.specs.Books.{Proper}
+use Rattle.accounts.specs.Books.{Contents, Proper}
 use Rattle.table_book.specs.declared.TableBook.{TableBook}
 
 -- what a read past a table's end would stand for
@@ -29,6 +29,9 @@ records_of b = take (count_of b) (table_of b)
 -- at most 4,096 places are used
 abbrev pub room_of : TableBook → ℕ
 room_of b = min 4096 (length (table_of b))
+
+abbrev pub contents_of : TableBook → Contents
+contents_of b = record { records = records_of b; room = room_of b; side = []; loans = loan_of b ∷ [] }
 
 pub record Sound (b : TableBook) : Type 0 where
   pub proper : Proper (records_of b) (room_of b)

@@ -4,7 +4,7 @@
 ghost use Rattle.std.specs.Prelude.{◌≡◌, ℕ, ◌<◌, min, true, List, [], ◌∷◌, ◌++◌, length, is_some, if◌then◌else◌, slice_index_or, slice_set};
 ghost use Rattle.std.specs.List.{slice_get};
 ghost use Rattle.accounts.specs.Books.{accounts, find, present, takes, added, suits, replaced, Left};
-ghost use Rattle.table_book.specs.Tables.{blank, table_of, count_of, loan_of, records_of, room_of, Sound, Added, Replaced};
+ghost use Rattle.table_book.specs.Tables.{blank, table_of, count_of, loan_of, records_of, room_of, contents_of, Sound, Added, Replaced};
 
 use accounts::book::AccountBook;
 use accounts::record::Record;
@@ -76,7 +76,7 @@ impl<'a> TableBook<'a> {
     fn push(&mut self, new: Record)
         requires { count_of self.old < room_of self.old }
         ensures table { Added true self.new self.old new }
-        ensures after { Sound self.old → takes (records_of self.old) (room_of self.old) new ≡ true → Left (Sound self.new) (records_of self.new) (records_of self.old ++ new ∷ []) (room_of self.new) (room_of self.old) [] [] (loan_of self.new ∷ []) (loan_of self.old ∷ []) }
+        ensures after { Sound self.old → takes (records_of self.old) (room_of self.old) new ≡ true → Left (Sound self.new) (contents_of self.new) (contents_of self.old) (records_of self.old ++ new ∷ []) }
     {
         self.table[self.count] = new;
         self.count += 1;
@@ -85,7 +85,7 @@ impl<'a> TableBook<'a> {
     // Puts a record at a place of the table; none past its end.
     fn put(&mut self, place: usize, new: Record)
         ensures table { Replaced true self.new self.old place new }
-        ensures after { Sound self.old → suits (records_of self.old) place new ≡ true → Left (Sound self.new) (records_of self.new) (slice_set (records_of self.old) place new) (room_of self.new) (room_of self.old) [] [] (loan_of self.new ∷ []) (loan_of self.old ∷ []) }
+        ensures after { Sound self.old → suits (records_of self.old) place new ≡ true → Left (Sound self.new) (contents_of self.new) (contents_of self.old) (slice_set (records_of self.old) place new) }
     {
         if place < self.table.len() {
             self.table[place] = new;
@@ -94,13 +94,7 @@ impl<'a> TableBook<'a> {
 }
 
 impl<'a> AccountBook for TableBook<'a> {
-    ghost records = { records_of };
-
-    ghost room = { room_of };
-
-    ghost side = { λ b. [] };
-
-    ghost loans = { λ b. loan_of b ∷ [] };
+    ghost contents = { contents_of };
 
     ghost sound = { Sound };
 
@@ -124,7 +118,7 @@ impl<'a> AccountBook for TableBook<'a> {
 
     fn add(&mut self, new: Record) -> bool
         ensures answer { Sound self.old → result ≡ takes (records_of self.old) (room_of self.old) new }
-        ensures after { Sound self.old → Left (Sound self.new) (records_of self.new) (added result (records_of self.old) new) (room_of self.new) (room_of self.old) [] [] (loan_of self.new ∷ []) (loan_of self.old ∷ []) }
+        ensures after { Sound self.old → Left (Sound self.new) (contents_of self.new) (contents_of self.old) (added result (records_of self.old) new) }
         ensures table { Added result self.new self.old new }
     {
         if self.count >= self.places() {
@@ -142,7 +136,7 @@ impl<'a> AccountBook for TableBook<'a> {
 
     fn replace(&mut self, place: usize, new: Record) -> bool
         ensures answer { Sound self.old → result ≡ suits (records_of self.old) place new }
-        ensures after { Sound self.old → Left (Sound self.new) (records_of self.new) (replaced result (records_of self.old) place new) (room_of self.new) (room_of self.old) [] [] (loan_of self.new ∷ []) (loan_of self.old ∷ []) }
+        ensures after { Sound self.old → Left (Sound self.new) (contents_of self.new) (contents_of self.old) (replaced result (records_of self.old) place new) }
         ensures table { Replaced result self.new self.old place new }
     {
         if !new.in_range() {

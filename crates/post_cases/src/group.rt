@@ -1,0 +1,37 @@
+// A group of cases, which are printed under its title.
+use super::told::Told;
+use std::fmt;
+
+#[derive(Clone, Copy)]
+pub struct Group<'r, 't> {
+    pub rt: &'r HostRuntime,
+    pub title: &'t str,
+}
+
+#[derive(Clone, Copy)]
+struct Text(Told);
+
+impl fmt::Display for Text {
+    fn fmt<W: fmt::Write>(&self, f: &mut fmt::Formatter<W>) -> fmt::Result {
+        match self.0 {
+            Ok(fact) => write!(f, "{fact}"),
+            Err(refused) => write!(f, "{refused}"),
+        }
+    }
+}
+
+impl Group<'_, '_> {
+    // Prints what came, and whether it is what was expected.
+    pub fn show(&self, name: &str, expected: Told, came: Told) -> anyhow::Result<()> {
+        let Group { rt, title } = *self;
+        let same = came == expected;
+        let came = Text(came);
+        if same {
+            println!(rt; "{title}: {name}: {came} ok")?;
+        } else {
+            let expected = Text(expected);
+            println!(rt; "{title}: {name}: {came}, expected {expected}, differs")?;
+        }
+        Ok(())
+    }
+}
