@@ -1,14 +1,14 @@
 // Packs and shows request files.
 ghost use Rattle.std.specs.Prelude.{◌≤◌, length};
 
-use accounts::record::{Kind, Line, Size};
-use answer_text::mistakes::expected_words;
-use answer_text::refusals::refusal_line;
+use super::ending::Ending;
+use accounts::record::Line;
+use answer_text::refusal::refusal_line;
 use anyhow::anyhow;
-use request_text::{words, write_reason};
 use request_writer::entry::Entry;
 use request_writer::refusal::WriteRefusal;
 use request_writer::writer::write;
+use requests::limits::MAX_LINES;
 use requests::reader::{read, remark};
 use statements::parse::parse;
 use statements::statement::{ParseError, Statement};
@@ -16,21 +16,10 @@ use statements::write::write as write_statement;
 use std::fs;
 use std::str::from_utf8;
 
-const MOST_LINES: usize = 1_024;
-
 const FIELDS: u8 = 6;
 
 // The first word of a line's statement, and a space.
 const LINE_WORD: &str = "line ";
-
-const BLANK: Line = Line {
-    account: 0,
-    percentage: 0,
-    savings: 0,
-    class: 0,
-    size: Size::Small,
-    kind: Kind::Member,
-};
 
 // Where the six fields of a line end.
 fn fields_end(text: &[u8]) -> usize
@@ -53,12 +42,8 @@ fn fields_end(text: &[u8]) -> usize
 
 // What follows the fields and a space.
 fn remark_of(text: &[u8]) -> &[u8] {
-    let end = fields_end(text);
-    if text.len() - end > 1 {
-        &text[end + 1..]
-    } else {
-        &[]
-    }
+    text.get(fields_end(text).saturating_add(1)..)
+        .unwrap_or(&[])
 }
 
 // The line that a text's line tells; none where it cannot be understood, which is then told.
@@ -68,8 +53,7 @@ fn line_of(rt: &HostRuntime, number: usize, text: &[u8]) -> anyhow::Result<Optio
     match parse(statement.as_slice(), rt.alloc()) {
         Ok(Some(Statement::Line(line))) => Ok(Some(line)),
         Err(ParseError::Expected(what)) => {
-            let wanted = expected_words(what);
-            eprintln!(rt; "text line {number}: expected {wanted}")?;
+            eprintln!(rt; "text line {number}: expected {what}")?;
             Ok(None)
         }
         _ => Err(anyhow!("there is no memory for the text")),
@@ -78,30 +62,27 @@ fn line_of(rt: &HostRuntime, number: usize, text: &[u8]) -> anyhow::Result<Optio
 
 // Whether a text's line is blank or a remark.
 fn tells_nothing(text: &[u8]) -> bool {
-    match text.first() {
-        Some(byte) => *byte == b'#',
-        None => true,
-    }
+    matches!(text.first(), None | Some(b'#'))
 }
 
 // Says why lines cannot be packed, with the line of the text where it is one line's fault.
 fn tell_refusal(rt: &HostRuntime, why: WriteRefusal, numbers: &[usize]) -> anyhow::Result<()> {
-    let reason = write_reason(&why);
     let line = match why {
         WriteRefusal::Number { place } | WriteRefusal::Remark { place } => numbers.get(place),
         _ => None,
     };
     match line {
-        Some(number) => eprintln!(rt; "text line {number}: {reason}")?,
-        None => eprintln!(rt; "post_journal: {reason}")?,
+        Some(number) => eprintln!(rt; "text line {number}: {why}")?,
+        None => eprintln!(rt; "post_journal: {why}")?,
     }
     Ok(())
 }
 
-// Writes a request file from a text of lines and remarks; false where it is refused, which is then told.
-pub fn pack(rt: &HostRuntime, text: &str, file: &str) -> anyhow::Result<bool> {
+// Writes a request file from a text of lines and remarks.
+pub fn pack(rt: &HostRuntime, text: &str, file: &str) -> anyhow::Result<Ending> {
     let text = fs::read_to_string(rt, text)?;
     let mut entries = Vec::new(rt.alloc());
+    // beside the entries, which the writer takes as they stand
     let mut numbers = Vec::new(rt.alloc());
     for (place, words) in text.as_str().lines().enumerate() {
         let words = words.as_bytes();
@@ -110,7 +91,7 @@ pub fn pack(rt: &HostRuntime, text: &str, file: &str) -> anyhow::Result<bool> {
         }
         let number = place.saturating_add(1);
         let Some(line) = line_of(rt, number, words)? else {
-            return Ok(false);
+            return Ok(Ending::Refused);
         };
         let remark = remark_of(words);
         entries.push(Entry { line, remark })?;
@@ -122,11 +103,11 @@ pub fn pack(rt: &HostRuntime, text: &str, file: &str) -> anyhow::Result<bool> {
             let lines = entries.len();
             let size = bytes.len();
             println!(rt; "{file}: {lines} lines, {size} bytes")?;
-            Ok(true)
+            Ok(Ending::Done)
         }
         Err(why) => {
             tell_refusal(rt, why, numbers.as_slice())?;
-            Ok(false)
+            Ok(Ending::Refused)
         }
     }
 }
@@ -149,23 +130,23 @@ fn show_line(rt: &HostRuntime, file: &[u8], place: usize, line: &Line) -> anyhow
     Ok(())
 }
 
-// Prints the lines of a request file with their remarks, or why it is refused; false where it is.
-pub fn show(rt: &HostRuntime, name: &str) -> anyhow::Result<bool> {
+// Prints the lines of a request file with their remarks, or why it is refused.
+pub fn show(rt: &HostRuntime, name: &str) -> anyhow::Result<Ending> {
     let bytes = fs::read(rt, name)?;
     let file = bytes.as_slice();
-    let mut table = vec![in rt.alloc(); BLANK; MOST_LINES]?;
+    let mut table = vec![in rt.alloc(); Line::default(); MAX_LINES]?;
     match read(file, table.as_mut_slice()) {
         Ok(lines) => {
             println!(rt; "# {name}: {lines} lines")?;
             for (place, line) in table.iter().take(lines).enumerate() {
                 show_line(rt, file, place, line)?;
             }
-            Ok(true)
+            Ok(Ending::Done)
         }
         Err(why) => {
-            let text = refusal_line(name, why.number(), why.place(), words(&why), rt.alloc())?;
+            let text = refusal_line(name, &why, rt.alloc())?;
             println!(rt; "{text}")?;
-            Ok(false)
+            Ok(Ending::Refused)
         }
     }
 }

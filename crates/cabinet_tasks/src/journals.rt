@@ -1,33 +1,15 @@
 // Reads a journal with the request files that it names.
 use super::progress::Progress;
-use answer_text::mistakes::{expected_words, mistake_line};
-use anyhow::anyhow;
 use journal_text::entries::{Journal, JournalFault, read_journal};
 use posting::entry::Entry;
+use posting::mistake::Mistake;
 use statements::statement::Statement;
 use std::fs;
 
-// Says what was expected of a line.
-pub(crate) fn tell_mistake(rt: &HostRuntime, line: usize, wanted: &str) -> anyhow::Result<()> {
-    let text = mistake_line(line, wanted, rt.alloc())?;
-    eprintln!(rt; "{text}")?;
-    Ok(())
-}
-
-// How many bytes of a journal's name are its folder, with the bar behind it.
-fn folder_length(name: &str) -> usize {
-    let mut length = 0;
-    for (place, byte) in name.as_bytes().iter().enumerate() {
-        if *byte == b'/' {
-            length = place.saturating_add(1);
-        }
-    }
-    length
-}
-
-// The folder of a journal, empty where its name has none.
+// The folder of a journal, with the bar behind it; empty where its name has none.
 pub(crate) fn folder_of(name: &str) -> &str {
-    match name.split_at_checked(folder_length(name)) {
+    let length = name.rfind('/').map_or(0, |bar| bar.saturating_add(1));
+    match name.split_at_checked(length) {
         Some((folder, _)) => folder,
         None => "",
     }
@@ -39,49 +21,50 @@ fn request_bytes(rt: &HostRuntime, folder: &str, name: &str) -> anyhow::Result<O
         return Ok(Some(bytes));
     }
     let beside = format!(in rt.alloc(); "{folder}{name}")?;
-    match fs::read(rt, beside.as_str()) {
-        Ok(bytes) => Ok(Some(bytes)),
-        Err(_) => Ok(None),
-    }
+    Ok(fs::read(rt, beside.as_str()).ok())
 }
 
-// Reads the request files that entries name; false where one cannot be read, which is then told.
-fn read_requests(rt: &HostRuntime, folder: &str, entries: &mut [Entry]) -> anyhow::Result<bool> {
+// Reads the request files that entries name, up to the first that cannot be read, which is a mistake of its line.
+fn read_requests(
+    rt: &HostRuntime,
+    folder: &str,
+    entries: &mut [Entry],
+) -> anyhow::Result<Option<Mistake<&'static str>>> {
     for entry in entries.iter_mut() {
         if let Statement::Request(name) = &entry.statement {
             match request_bytes(rt, folder, name.as_str())? {
                 Some(bytes) => entry.file = bytes,
                 None => {
-                    tell_mistake(rt, entry.line, "a request file that can be read")?;
-                    return Ok(false);
+                    return Ok(Some(Mistake {
+                        line: entry.line,
+                        wanted: "a request file that can be read",
+                    }));
                 }
             }
         }
     }
-    Ok(true)
+    Ok(None)
 }
 
-// The entries of a text with their request files; none where it is no journal, which is then told.
-pub(crate) fn entries_of(
-    rt: &HostRuntime,
+// The journal of a text with its request files; none where it is no journal, which is then told.
+pub(crate) fn journal_of(
     progress: &mut Progress,
     folder: &str,
     text: &[u8],
 ) -> anyhow::Result<Option<Journal>> {
-    match read_journal(text, rt.alloc()) {
-        Ok(journal) => {
-            let mut journal = journal;
-            progress.tell(journal.lines, "lines are read")?;
-            if read_requests(rt, folder, journal.entries.as_mut_slice())? {
-                Ok(Some(journal))
-            } else {
-                Ok(None)
-            }
+    let rt = progress.rt;
+    let mut journal = match read_journal(text, rt.alloc()) {
+        Ok(journal) => journal,
+        Err(JournalFault::Line(mistake)) => {
+            eprintln!(rt; "{mistake}")?;
+            return Ok(None);
         }
-        Err(JournalFault::Line { line, what }) => {
-            tell_mistake(rt, line, expected_words(what))?;
-            Ok(None)
-        }
-        Err(JournalFault::NoMemory) => Err(anyhow!("there is no memory for the journal")),
+        Err(why) => return Err(why.into()),
+    };
+    progress.tell(journal.lines, "lines are read")?;
+    if let Some(mistake) = read_requests(rt, folder, journal.entries.as_mut_slice())? {
+        eprintln!(rt; "{mistake}")?;
+        return Ok(None);
     }
+    Ok(Some(journal))
 }

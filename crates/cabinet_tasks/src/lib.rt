@@ -2,9 +2,11 @@
 #![tactic(auto)]
 
 pub mod books;
+pub mod ending;
 pub mod files;
 pub mod help;
 mod journals;
-mod log;
-mod progress;
-mod report;
+pub mod log;
+pub mod paper;
+pub mod progress;
+pub mod report;

@@ -1,10 +1,11 @@
-// Posts the calls of a journal through the ledger's run, and prints a line for each statement that answers.
+// The log of a journal: a line for each statement that answers, and the books as they stand.
+use super::paper::Paper;
 use super::progress::Progress;
 use accounts::book::AccountBook;
+use accounts::project::Project;
 use answer_text::answers::OPENED;
-use answer_text::books::{account_line, cents_line, ledger_line, units_line};
-use answer_text::refusals::declined_line;
-use anyhow::anyhow;
+use answer_text::books::{account_line, ledger_line};
+use answer_text::refusal::refusal_line;
 use crediting::method::CreditMethod;
 use journal::refusal::RunRefusal;
 use journal::run::run;
@@ -13,66 +14,68 @@ use journal_text::totals::{cent_totals, unit_totals};
 use ledger::call::{Done, Refusal};
 use ledger::ledger::Ledger;
 use posting::note::Note;
-use posting::order::Head;
 use posting::plan::Plan;
 use std::io::{BufWriter, Write};
 
 // How many lines are printed between two looks at the clock.
 const LINES_TO_A_LOOK: usize = 8_192;
 
-// Posts the calls of a plan, and prints the log.
-pub(crate) fn post<M: CreditMethod + Drop, B: AccountBook>(
-    rt: &HostRuntime,
-    progress: &mut Progress,
-    head: Head,
-    book: &mut B,
-    plan: &Plan<M>,
-) -> anyhow::Result<()> {
-    let heap = rt.alloc();
-    let calls = plan.calls.as_slice();
-    let mut ledger = Ledger::new();
-    let answers = match run(&mut ledger, head.smallest, head.farm, book, calls, heap) {
-        Ok(answers) => answers,
-        Err(RunRefusal::NotOpened(why)) => {
-            let text = declined_line("open", why, heap)?;
-            println!(rt; "{text}")?;
-            return Ok(());
-        }
-        Err(RunRefusal::NoMemory) => return Err(anyhow!("there is no memory for the answers")),
-    };
-    let answers = answers.as_slice();
-    progress.tell(calls.len(), "calls are posted")?;
-    let mut out = BufWriter::new(heap, rt.stdout())?;
-    writeln!(out, "{OPENED}")?;
-    print_answers(rt, progress, &mut out, plan.notes.as_slice(), answers)?;
-    print_books(rt, &mut out, &ledger, book)?;
-    let units = units_line(unit_totals(&ledger, book, calls, answers), heap)?;
-    writeln!(out, "{units}")?;
-    let cents = cents_line(cent_totals(&ledger, calls, answers), heap)?;
-    writeln!(out, "{cents}")?;
-    out.flush()?;
-    Ok(())
+#[derive(Clone, Copy, PartialEq, Eq, Debug)]
+pub struct Log;
+
+impl Paper for Log {
+    fn print<M: CreditMethod + Drop, B: AccountBook>(
+        &self,
+        progress: &mut Progress,
+        project: Project,
+        book: &mut B,
+        plan: &Plan<M>,
+    ) -> anyhow::Result<()> {
+        let rt = progress.rt;
+        let heap = rt.alloc();
+        let calls = plan.calls.as_slice();
+        let mut ledger = Ledger::new();
+        let answers = match run(&mut ledger, project, book, calls, heap) {
+            Ok(answers) => answers,
+            Err(RunRefusal::NotOpened(why)) => {
+                let text = refusal_line("open", &why, heap)?;
+                println!(rt; "{text}")?;
+                return Ok(());
+            }
+            Err(why) => return Err(why.into()),
+        };
+        let answers = answers.as_slice();
+        progress.tell(calls.len(), "calls are posted")?;
+        let mut out = BufWriter::new(heap, rt.stdout())?;
+        writeln!(out, "{OPENED}")?;
+        print_answers(progress, &mut out, plan.notes.as_slice(), answers)?;
+        print_books(rt, &mut out, &ledger, book)?;
+        let units = unit_totals(&ledger, book, calls, answers);
+        writeln!(out, "{units}")?;
+        let cents = cent_totals(&ledger, calls, answers);
+        writeln!(out, "{cents}")?;
+        out.flush()?;
+        Ok(())
+    }
 }
 
 // A line for each statement that answers; those that are calls take the answers in order.
 fn print_answers<W: Write>(
-    rt: &HostRuntime,
     progress: &mut Progress,
     out: &mut W,
     notes: &[Note],
     answers: &[Result<Done, Refusal>],
 ) -> anyhow::Result<()> {
-    let mut next = 0usize;
+    let heap = progress.rt.alloc();
+    let mut answers = answers.iter();
     for (place, note) in notes.iter().enumerate() {
-        let answer = match answers.get(next) {
-            Some(answer) => Some(*answer),
-            None => None,
+        let answer = if is_call(*note) {
+            answers.next().copied()
+        } else {
+            None
         };
-        let line = note_line(*note, answer, rt.alloc())?;
+        let line = note_line(*note, answer, heap)?;
         writeln!(out, "{line}")?;
-        if is_call(*note) {
-            next = next.saturating_add(1);
-        }
         if place % LINES_TO_A_LOOK == 0 {
             progress.tell(place, "answers are printed")?;
         }
@@ -89,6 +92,7 @@ fn print_books<W: Write, B: AccountBook>(
     let heap = rt.alloc();
     let line = ledger_line(ledger.phase(), ledger.closed_periods(), ledger.bank(), heap)?;
     writeln!(out, "{line}")?;
+    // by place: an account book is asked for one record after the other
     for place in 0..book.count() {
         if let Some(record) = book.get(place) {
             let line = account_line(record, heap)?;

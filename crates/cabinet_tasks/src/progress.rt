@@ -2,8 +2,8 @@
 use std::time::Instant;
 
 #[derive(Drop)]
-pub(crate) struct Progress<'a> {
-    rt: &'a HostRuntime,
+pub struct Progress<'a> {
+    pub(crate) rt: &'a HostRuntime,
     start: Instant,
     // the second in which something was told last
     told: u64,

@@ -1,13 +1,15 @@
-// Performs the calls of a journal, and prints the host's report for each period as it is closed.
+// The host's report: the summary and the payment of each period as it is closed.
+use super::paper::Paper;
 use super::progress::Progress;
 use accounts::book::AccountBook;
+use accounts::project::Project;
 use accounts::record::Record;
-use answer_text::refusals::declined_line;
+use answer_text::refusal::refusal_line;
 use crediting::method::CreditMethod;
 use ledger::call::{Call, Done, Settlement};
 use ledger::ledger::Ledger;
 use ledger::phase::Phase;
-use posting::order::Head;
+use posting::plan::Plan;
 use report_text::payment::ITEMS;
 use report_text::row::{Column, Row};
 use report_text::sheet::{note, opened_rows};
@@ -28,14 +30,10 @@ struct Sheet {
 impl Sheet {
     // Before the first period.
     fn empty(heap: Global) -> Sheet {
-        let bank = Bank {
-            before: 0,
-            after: 0,
-        };
         Sheet {
             period: 0,
             reading: 0,
-            bank,
+            bank: Bank::default(),
             rows: Vec::new(heap),
         }
     }
@@ -54,6 +52,7 @@ impl Sheet {
 
 fn records<B: AccountBook>(book: &B, heap: Global) -> Result<Vec<Record>, AllocError> {
     let mut records = Vec::new(heap);
+    // by place: an account book is asked for one record after the other
     for place in 0..book.count() {
         if let Some(record) = book.get(place) {
             records.push(record)?;
@@ -118,58 +117,63 @@ fn print_periods<M: CreditMethod, B: AccountBook, W: Write>(
             _ => Vec::new(heap),
         };
         let bank = ledger.bank();
-        match ledger.perform(book, call) {
-            Ok(Done::Opened { period }) => {
-                sheet.period = period;
-                sheet.reading = match call {
-                    Call::Reading(units) => *units,
-                    _ => 0,
-                };
-                sheet.bank = Bank {
-                    before: bank,
-                    after: ledger.bank(),
-                };
+        match (call, ledger.perform(book, call)) {
+            (Call::Reading(reading), Ok(Done::Opened { period })) => {
                 let after = records(book, heap)?;
-                sheet.rows = opened_rows(before.as_slice(), after.as_slice(), heap)?;
+                sheet = Sheet {
+                    period,
+                    reading: *reading,
+                    bank: Bank {
+                        before: bank,
+                        after: ledger.bank(),
+                    },
+                    rows: opened_rows(before.as_slice(), after.as_slice(), heap)?,
+                };
             }
-            Ok(Done::Closed(settlement)) => {
+            (_, Ok(Done::Closed(settlement))) => {
                 print_sheet(out, &sheet, &settlement, heap)?;
                 progress.tell(place, "calls are posted")?;
             }
-            Ok(done) => sheet.note(book, call, &done),
-            Err(_) => refused = refused.saturating_add(1),
+            (_, Ok(done)) => sheet.note(book, call, &done),
+            (_, Err(_)) => refused = refused.saturating_add(1),
         }
     }
     Ok(refused)
 }
 
-// Posts calls, and prints the report of all closed periods.
-pub(crate) fn report<M: CreditMethod, B: AccountBook>(
-    rt: &HostRuntime,
-    progress: &mut Progress,
-    head: Head,
-    book: &mut B,
-    calls: &[Call<M>],
-) -> anyhow::Result<()> {
-    let heap = rt.alloc();
-    let mut ledger = Ledger::new();
-    if let Err(why) = ledger.open(head.smallest, head.farm, book) {
-        let text = declined_line("open", why, heap)?;
-        println!(rt; "{text}")?;
-        return Ok(());
-    }
-    let mut out = BufWriter::new(heap, rt.stdout())?;
-    let refused = print_periods(progress, &mut out, &mut ledger, book, calls, heap)?;
-    let closed = ledger.closed_periods();
-    match ledger.phase() {
-        Phase::Between => writeln!(out, "Closed periods: {closed}")?,
-        Phase::InPeriod { .. } => {
-            writeln!(out, "Closed periods: {closed}; one more is open")?;
+#[derive(Clone, Copy, PartialEq, Eq, Debug)]
+pub struct Report;
+
+impl Paper for Report {
+    fn print<M: CreditMethod + Drop, B: AccountBook>(
+        &self,
+        progress: &mut Progress,
+        project: Project,
+        book: &mut B,
+        plan: &Plan<M>,
+    ) -> anyhow::Result<()> {
+        let rt = progress.rt;
+        let heap = rt.alloc();
+        let mut ledger = Ledger::new();
+        if let Err(why) = ledger.open(project, book) {
+            let text = refusal_line("open", &why, heap)?;
+            println!(rt; "{text}")?;
+            return Ok(());
         }
+        let mut out = BufWriter::new(heap, rt.stdout())?;
+        let calls = plan.calls.as_slice();
+        let refused = print_periods(progress, &mut out, &mut ledger, book, calls, heap)?;
+        let closed = ledger.closed_periods();
+        match ledger.phase() {
+            Phase::Between => writeln!(out, "Closed periods: {closed}")?,
+            Phase::InPeriod { .. } => {
+                writeln!(out, "Closed periods: {closed}; one more is open")?;
+            }
+        }
+        if refused > 0 {
+            writeln!(out, "Refused calls: {refused}; the log tells why")?;
+        }
+        out.flush()?;
+        Ok(())
     }
-    if refused > 0 {
-        writeln!(out, "Refused calls: {refused}; the log tells why")?;
-    }
-    out.flush()?;
-    Ok(())
 }

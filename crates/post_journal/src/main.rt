@@ -1,19 +1,22 @@
 // Posts a journal and prints what happened, or the host's monthly report; packs and shows request files.
 #![tactic(auto)]
 
-use cabinet_tasks::books::{Paper, post_file, post_input};
+use cabinet_tasks::books::{post_file, post_input};
+use cabinet_tasks::ending::Ending;
 use cabinet_tasks::files::{pack, show};
 use cabinet_tasks::help::HELP;
+use cabinet_tasks::log::Log;
+use cabinet_tasks::report::Report;
 use std::env;
 use std::process::ExitCode;
 
-fn misused(rt: &HostRuntime, what: &str) -> anyhow::Result<bool> {
+fn misused(rt: &HostRuntime, what: &str) -> anyhow::Result<Ending> {
     eprintln!(rt; "post_journal: {what}; post_journal --help explains")?;
-    Ok(false)
+    Ok(Ending::Refused)
 }
 
-// What the arguments ask for; false where it is refused, which is then told.
-fn perform(rt: &HostRuntime) -> anyhow::Result<bool> {
+// What the arguments ask for.
+fn perform(rt: &HostRuntime) -> anyhow::Result<Ending> {
     let mut args = env::args(rt)?.skip(1);
     let first = args.next();
     let second = args.next();
@@ -23,15 +26,15 @@ fn perform(rt: &HostRuntime) -> anyhow::Result<bool> {
         return misused(rt, "too many words");
     }
     let Some(first) = first else {
-        return post_input(rt, Paper::Log);
+        return post_input(rt, &Log);
     };
     match (first.as_str(), second, third) {
         ("--help", None, None) => {
             rt.print(HELP)?;
-            Ok(true)
+            Ok(Ending::Done)
         }
-        ("--report", None, None) => post_input(rt, Paper::Report),
-        ("--report", Some(name), None) => post_file(rt, Paper::Report, name.as_str()),
+        ("--report", None, None) => post_input(rt, &Report),
+        ("--report", Some(name), None) => post_file(rt, &Report, name.as_str()),
         ("--pack", Some(text), Some(file)) => pack(rt, text.as_str(), file.as_str()),
         ("--pack", _, _) => misused(rt, "--pack takes a text and a file"),
         ("--show", Some(file), None) => show(rt, file.as_str()),
@@ -40,7 +43,7 @@ fn perform(rt: &HostRuntime) -> anyhow::Result<bool> {
             if name.starts_with("--") {
                 misused(rt, "there is no such option")
             } else {
-                post_file(rt, Paper::Log, name)
+                post_file(rt, &Log, name)
             }
         }
         _ => misused(rt, "too many words"),
@@ -48,9 +51,5 @@ fn perform(rt: &HostRuntime) -> anyhow::Result<bool> {
 }
 
 fn main(rt: HostRuntime) -> anyhow::Result<ExitCode> {
-    if perform(&rt)? {
-        Ok(ExitCode::SUCCESS)
-    } else {
-        Ok(ExitCode::FAILURE)
-    }
+    Ok(perform(&rt)?.into())
 }

@@ -1,0 +1,17 @@
+// What is printed of a journal.
+use super::progress::Progress;
+use accounts::book::AccountBook;
+use accounts::project::Project;
+use crediting::method::CreditMethod;
+use posting::plan::Plan;
+
+// Posts the calls of a plan in an empty book, by any method, and prints what came of them.
+pub trait Paper {
+    fn print<M: CreditMethod + Drop, B: AccountBook>(
+        &self,
+        progress: &mut Progress,
+        project: Project,
+        book: &mut B,
+        plan: &Plan<M>,
+    ) -> anyhow::Result<()>;
+}
