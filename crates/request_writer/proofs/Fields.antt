@@ -1,15 +1,17 @@
 -- The fields of a line that was written read back as they were.
-use Rattle.std.proofs.Common.{◌≡◌, ℕ, zero, suc, ◌+◌, ◌-◌, ◌*◌, ◌/◌, ◌%◌, ◌^◌, ◌<◌, true, ◌&&◌, ltb, List, [], ◌∷◌, ◌++◌, length, get_or, Ok, refl, ap, ◌∙◌, add_assoc, pow-suc, zero-add, arith}
+use Rattle.std.proofs.Common.{◌≡◌, ℕ, zero, suc, ◌+◌, ◌-◌, ◌*◌, ◌/◌, ◌%◌, ◌^◌, ◌<◌, true, List, [], ◌∷◌, ◌++◌, length, get_or, Ok, refl, ap, ◌∙◌, add_assoc, pow-suc, zero-add, arith}
 use Rattle.std.proofs.lemmas.List.{append_assoc, length-append, length_push, get_or-append-add, get_or_at}
-use Rattle.std.proofs.lemmas.Bool.{and_from, and_parts, ltb-true, lt-ltb}
+use Rattle.std.proofs.lemmas.Bool.{and_from, lt-ltb}
+use Rattle.std.proofs.lemmas.Bool.Decides.{nat_tests}
 use Rattle.accounts.specs.declared.record.Line.{Line}
 use Rattle.accounts.specs.declared.record.Size.{Size}
 use Rattle.accounts.specs.declared.record.Size.TheVariants.{Small, Large}
 use Rattle.accounts.specs.declared.record.Kind.{Kind}
 use Rattle.accounts.specs.declared.record.Kind.TheVariants.{Member, Anchor}
-use Rattle.requests.specs.Form.{is_digit, all_digits, number, number_at, size_of, kind_of, remark_space, line_of}
+use Rattle.requests.specs.Form.{is_digit, all_digits, number, number_at, letter, remark_space, line_of}
+use Rattle.accounts.specs.Marks.{size_of, size_letter, kind_of, kind_letter}
 use Rattle.requests.proofs.Numerals.{digit_true}
-use Rattle.request_writer.specs.Packing.{Item, digits, field, size_letter, kind_letter, form, behind, text, holds}
+use Rattle.request_writer.specs.Packing.{Item, digits, field, form, behind, text, holds}
 use Rattle.request_writer.proofs.Texts.{length_digits}
 
 -- past a first part, a field is that of the rest
@@ -76,11 +78,11 @@ module _ (w n : ℕ) (rest : List ℕ) where
   skip : (k : ℕ) → get_or (field w n ++ rest) (suc w + k) 0 ≡ get_or rest k 0
   skip k = rw (← length_field w n) (get_or-append-add (field w n) rest k 0)
 
-size_back : (s : Size) → size_of (size_letter s) ≡ Ok s
+size_back : (s : Size) → letter (size_of (size_letter s)) ≡ Ok s
 size_back Small = refl
 size_back Large = refl
 
-kind_back : (k : Kind) → kind_of (kind_letter k) ≡ Ok k
+kind_back : (k : Kind) → letter (kind_of (kind_letter k)) ≡ Ok k
 kind_back Member = refl
 kind_back Anchor = refl
 
@@ -95,15 +97,12 @@ record Widths (l : Line) : Type 0 where
   class : l.class < 10 ^ 2
 
 widths : (l : Line) → holds l ≡ true → Widths l
-widths l h =
-    let a = ltb l.account 100000000000 in
-    let p = ltb l.percentage 1000000 in
-    let s = ltb l.savings 10000 in
-    let c = ltb l.class 100 in
-    let x = and_parts a (p && (s && c)) h in
-    let y = and_parts p (s && c) x.1 in
-    let z = and_parts s c y.1 in
-    record { account = ltb-true _ _ x.0; percentage = ltb-true _ _ y.0; savings = ltb-true _ _ z.0; class = ltb-true _ _ z.1 }
+widths l h = record {
+  account = grind (arith, nat_tests);
+  percentage = grind (arith, nat_tests);
+  savings = grind (arith, nat_tests);
+  class = grind (arith, nat_tests);
+}
 
 module _ (l : Line) (t : List ℕ) where
   letters : List ℕ

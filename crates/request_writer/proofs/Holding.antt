@@ -1,13 +1,15 @@
 -- What any file holds can be packed.
-use Rattle.std.proofs.Common.{◌≡◌, ℕ, suc, ◌+◌, ◌-◌, ◌*◌, ◌^◌, ◌<◌, ◌≤◌, Bool, true, false, ◌&&◌, eqb, ltb, leb, List, [], ◌∷◌, map, length, get_or, Some, Ok, Err, Result, sym, refl, ap, ◌∙◌, subst, inl, inr, add-zero, zero-add, arith}
+use Rattle.std.proofs.Common.{◌≡◌, ℕ, suc, ◌+◌, ◌-◌, ◌*◌, ◌^◌, ◌<◌, ◌≤◌, true, eqb, ltb, List, [], ◌∷◌, map, length, get_or, Some, Ok, Err, Result, sym, refl, ap, ◌∙◌, subst, inl, inr, add-zero, zero-add, arith}
 use Rattle.std.specs.List.{flat_map}
 use Rattle.std.specs.Option.{option_map}
 use Rattle.std.proofs.lemmas.List.{length-append, length-map, length-take}
-use Rattle.std.proofs.lemmas.Bool.{and_from, and_parts, le-leb, leb-true, lt-ltb, le-ltb, or_from, ne_eqb, cases_lt}
+use Rattle.std.proofs.lemmas.Bool.{le-leb, lt-ltb, le-ltb, or_from, ne_eqb, cases_lt}
+use Rattle.std.proofs.lemmas.Bool.Decides.{nat_tests}
 use Rattle.accounts.specs.declared.record.Line.{Line}
 use Rattle.requests.specs.declared.pairs.Pair.{Pair}
 use Rattle.requests.specs.declared.fault.FieldFault.{FieldFault}
-use Rattle.requests.specs.Form.{then, all_digits, number, number_at, space_at, size_of, kind_of, remark_space, line_of}
+use Rattle.requests.specs.Form.{then, number_at, space_at, letter, remark_space, line_of}
+use Rattle.accounts.specs.Marks.{size_of, kind_of}
 use Rattle.requests.specs.Meaning.{pair_at, end_of, fits, pairs_from, part, of_line, line_at, lines_from, meaning, remark_start, remark_of, remark_at}
 use Rattle.requests.proofs.Numerals.{number_lt}
 use Rattle.requests.proofs.Judged.{no_fault, lines_split}
@@ -19,11 +21,7 @@ use Rattle.request_writer.proofs.Checks.{length_file}
 
 -- a number field that was read has no more digits than its width
 number_small : (bs : List ℕ) (at w n : ℕ) → number_at bs at w ≡ Ok n → n < 10 ^ w
-number_small bs at w n h = by (all_digits bs at w) refl
-  where
-    by : (b : Bool) → all_digits bs at w ≡ b → n < 10 ^ w
-    by true k = let e : number bs at w ≡ n = let i = rw k at h in cc in rw (← e) (number_lt bs at w k)
-    by false k = absurd (no_fault n _ (rw k at h))
+number_small bs at w n h = grind (arith, nat_tests, number_lt)
 
 -- what follows from a part that is in order
 thus : {A B E : Type 0} (r : Result A E) (f : A → Result B E) (b : B) (P : Type 0) → ((a : A) → r ≡ Ok a → f a ≡ Ok b → P) → then r f ≡ Ok b → P
@@ -31,10 +29,7 @@ thus (Ok a) f b P g h = g a refl h
 thus (Err e) f b P g h = absurd (no_fault b e h)
 
 held : (l : Line) → l.account < 10 ^ 11 → l.percentage < 10 ^ 6 → l.savings < 10 ^ 4 → l.class < 10 ^ 2 → holds l ≡ true
-held l a p s c =
-    and_from (ltb l.account 100000000000) _ (lt-ltb l.account 100000000000 a)
-    (and_from (ltb l.percentage 1000000) _ (lt-ltb l.percentage 1000000 p)
-    (and_from (ltb l.savings 10000) _ (lt-ltb l.savings 10000 s) (lt-ltb l.class 100 c)))
+held l a p s c = grind (arith, nat_tests)
 
 ok_value : {A E : Type 0} (a b : A) → ◌≡◌ {A = Result A E} (Ok a) (Ok b) → a ≡ b
 ok_value a b h = cc
@@ -47,8 +42,8 @@ line_small bs l =
     thus (number_at bs 12 6) _ l P (λ percentage p. thus (space_at bs 18) _ l P (λ _ _.
     thus (number_at bs 19 4) _ l P (λ savings s. thus (space_at bs 23) _ l P (λ _ _.
     thus (number_at bs 24 2) _ l P (λ class c. thus (space_at bs 26) _ l P (λ _ _.
-    thus (size_of (get_or bs 27 0)) _ l P (λ size _. thus (space_at bs 28) _ l P (λ _ _.
-    thus (kind_of (get_or bs 29 0)) _ l P (λ kind _. thus (remark_space bs) _ l P (λ _ _ is.
+    thus (letter (size_of (get_or bs 27 0))) _ l P (λ size _. thus (space_at bs 28) _ l P (λ _ _.
+    thus (letter (kind_of (get_or bs 29 0))) _ l P (λ kind _. thus (remark_space bs) _ l P (λ _ _ is.
     let v : Line = record { account = account; percentage = percentage; savings = savings; class = class; size = size; kind = kind } in
     subst (λ x. holds x ≡ true) (ok_value v l is) (held v (number_small bs 0 11 account a) (number_small bs 12 6 percentage p) (number_small bs 19 4 savings s) (number_small bs 24 2 class c))))))))))))))
 
@@ -64,14 +59,12 @@ record Pairs (limit start : ℕ) (p : Pair) : Type 0 where
   inside : end_of p ≤ limit
 
 pair_fits : (limit start : ℕ) (p : Pair) → fits limit start p ≡ true → Pairs limit start p
-pair_fits limit start p h =
-    let b = leb 30 p.length in
-    let c = leb p.length 110 in
-    let d = leb (end_of p) limit in
-    let x = and_parts (leb start p.offset) (b && (c && d)) h in
-    let y = and_parts b (c && d) x.1 in
-    let z = and_parts c d y.1 in
-    record { after = leb-true _ _ x.0; long = leb-true _ _ y.0; short = leb-true _ _ z.0; inside = leb-true _ _ z.1 }
+pair_fits limit start p h = record {
+  after = grind (arith, nat_tests);
+  long = grind (arith, nat_tests);
+  short = grind (arith, nat_tests);
+  inside = grind (arith, nat_tests);
+}
 
 -- a remark is what a line has behind byte 30
 remark_room : (file : List ℕ) (p : Pair) (r : List ℕ) → (remark_of file p).0 ≡ r → (30 < p.length → length r + 31 ≤ p.length) × (p.length ≤ 30 → length r ≡ 0)
@@ -98,11 +91,7 @@ items_join p e es h r rest = rw (h, le-leb (length e.1) 79 r) rest
 
 pairs_split : (file : List ℕ) (start k n : ℕ) → pairs_from file start k (suc n) ≡ Ok tt → (fits (length file) start (pair_at file k) ≡ true) × (pairs_from file (end_of (pair_at file k)) (k + 1) n ≡ Ok tt)
 unfolding pairs_from
-pairs_split file start k n h = by (fits (length file) start (pair_at file k)) refl
-  where
-    by : (b : Bool) → fits (length file) start (pair_at file k) ≡ b → (fits (length file) start (pair_at file k) ≡ true) × (pairs_from file (end_of (pair_at file k)) (k + 1) n ≡ Ok tt)
-    by true i = (i, rw i at h)
-    by false i = absurd (no_fault tt _ (rw i at h))
+pairs_split file start k n h = (grind (arith, nat_tests), grind (arith, nat_tests))
 
 line_of_ok : (file : List ℕ) (k : ℕ) (l : Line) → line_at file k ≡ Ok l → line_of (part file (pair_at file k)) ≡ Ok l
 unfolding line_at

@@ -2,6 +2,7 @@ mod Checks
 mod Fields
 mod Holding
 mod Packs
+mod Padded
 mod Places
 mod Texts
 mod Trips

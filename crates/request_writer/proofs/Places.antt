@@ -86,7 +86,7 @@ stands file xs rest more k at (e ∷ es) is long behind small =
     let total : length (flat_map text (e ∷ es)) ≡ n + length (flat_map text es) = length-append (text e) (flat_map text es) in
     let here : drop at file ≡ text e ++ (flat_map text es ++ more) = behind ∙ append_assoc (text e) (flat_map text es) more in
     let next : drop (at + n) file ≡ flat_map text es ++ more = sym (drop-drop n at file) ∙ ap (drop n) here ∙ drop_at (text e) (flat_map text es ++ more) n refl in
-    let heads : length (xs ++ (little_bytes 4 at ++ little_bytes 2 n)) ≡ 2 + 6 * (k + 1) = rw (length-append, length-append (little_bytes 4 at), length_little, length_little 2 n) (omega arith) in (
+    let heads : length (xs ++ (little_bytes 4 at ++ little_bytes 2 n)) ≡ 2 + 6 * (k + 1) = rw (length-append, length-append (little_bytes 4 at), length_little 4 at, length_little 2 n) (omega arith) in (
       ap (λ f. pair_at f k) is ∙ pair_back xs rest k at e es long (omega arith) (omega arith),
       (flat_map text es ++ more, here),
       stands file (xs ++ (little_bytes 4 at ++ little_bytes 2 n)) rest more (k + 1) (at + n) es (is ∙ step xs rest at e es) heads next (omega arith),

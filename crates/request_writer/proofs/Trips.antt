@@ -1,16 +1,18 @@
 -- Reading what was packed gives it back.
-use Rattle.std.proofs.Common.{◌≡◌, ℕ, zero, suc, ◌+◌, ◌-◌, ◌*◌, ◌<◌, ◌≤◌, Bool, true, false, ◌||◌, eqb, ltb, leb, List, [], ◌∷◌, ◌++◌, map, length, get_or, drop, Some, Ok, Err, Result, sym, refl, ap, ◌∙◌, add-zero, zero-add, arith}
+use Rattle.std.proofs.Common.{◌≡◌, ℕ, zero, suc, ◌+◌, ◌-◌, ◌*◌, ◌<◌, ◌≤◌, true, ◌||◌, eqb, ltb, List, [], ◌∷◌, ◌++◌, map, length, get_or, drop, Some, IsOk, Ok, Err, Result, sym, refl, ap, ◌∙◌, add-zero, zero-add, arith}
 use Rattle.std.specs.List.{flat_map}
 use Rattle.std.specs.Option.{option_map}
 use Rattle.std.proofs.lemmas.List.{append_assoc, append-nil, length-append, length_push, length-map, drop-drop, drop_at, take_at}
-use Rattle.std.proofs.lemmas.Bool.{and_from, le-leb, leb-true, lt-ltb, le-ltb, or_from, or_parts, ltb-false, eqb-false, ne_eqb}
+use Rattle.std.proofs.lemmas.Bool.{lt-ltb, le-ltb, or_from, or_parts, ltb-false, eqb-false, ne_eqb}
+use Rattle.std.proofs.lemmas.Bool.Decides.{nat_tests}
 use Rattle.accounts.specs.declared.record.Line.{Line}
 use Rattle.requests.specs.Meaning.{little, pair_at, fits, pairs_from, line_at, lines_from, count, meaning, remark_of, remark_at}
-use Rattle.requests.proofs.Judged.{no_fault, then_ok}
+use Rattle.requests.proofs.Judged.{then_ok}
 use Rattle.requests.proofs.Readings.{cond_ok}
 use Rattle.request_writer.specs.declared.refusal.WriteRefusal.{WriteRefusal}
 use Rattle.request_writer.specs.declared.refusal.WriteRefusal.TheVariants as refusal
-use Rattle.request_writer.specs.Packing.{Item, form, text, holds, little_bytes, pairs, file_of, items_from, packing, sized, ReadsBack}
+use Rattle.request_writer.specs.declared.entry.Entry.{Entry}
+use Rattle.request_writer.specs.Packing.{Item, item, form, text, holds, little_bytes, pairs, file_of, items_from, packing, sized, ReadsBack}
 use Rattle.request_writer.proofs.Texts.{length_form, length_text}
 use Rattle.request_writer.proofs.Packs.{length_little}
 use Rattle.request_writer.proofs.Checks.{size, length_file, length_pairs, text_most}
@@ -25,19 +27,15 @@ record Fit (e : Item) : Type 0 where
 -- the first of some lines that a file can hold, and the others
 items_split : (p : ℕ) (e : Item) (es : List Item) → items_from p (e ∷ es) ≡ Ok tt → Fit e × (items_from (p + 1) es ≡ Ok tt)
 unfolding items_from
-items_split p e es h = by (holds e.0) refl (leb (length e.1) 79) refl
-  where
-    by : (b : Bool) → holds e.0 ≡ b → (c : Bool) → leb (length e.1) 79 ≡ c → Fit e × (items_from (p + 1) es ≡ Ok tt)
-    by true k true r = (record { numbers = k; remark = leb-true (length e.1) 79 r }, rw (k, r) at h)
-    by true k false r = absurd (no_fault tt (refusal.Remark p) (rw (k, r) at h))
-    by false k c r = absurd (no_fault tt (refusal.Number p) (rw k at h))
+items_split p e es h =
+    (record { numbers = grind (arith, nat_tests); remark = grind (arith, nat_tests) }, grind (arith, nat_tests))
 
 -- the pair of a line that stands in the file fits it
 fits_here : (e : Item) (limit start at : ℕ) → Fit e → start ≤ at → at + length (text e) ≤ limit → fits limit start (record { offset = at; length = length (text e) }) ≡ true
 fits_here e limit start at f low high =
-    let n = length (text e) in
-    let long : 30 ≤ n = omega (arith, length_text e) in
-    and_from (leb start at) _ (le-leb start at low) (and_from (leb 30 n) _ (le-leb 30 n long) (and_from (leb n 110) _ (le-leb n 110 (text_most e f.remark)) (le-leb (at + n) limit high)))
+    let long : 30 ≤ length (text e) = omega (arith, length_text e) in
+    let short = text_most e f.remark in
+    grind (arith, nat_tests)
 
 pairs_back : (file : List ℕ) (start k at p : ℕ) (es : List Item) → Stands file k at es → items_from p es ≡ Ok tt → start ≤ at → at + length (flat_map text es) ≤ length file → pairs_from file start k (length es) ≡ Ok tt
 unfolding pairs_from
@@ -147,14 +145,20 @@ reads_back es file h =
           remark_shown (file_of es) (get_or es place d).1 place (map (λ e. e.0) es) means (rw length-map l) (rw zero-add at (remarks_back (file_of es) 0 (2 + 6 * n) place d es there l));
     })
 
--- lines whose file has a size are packed
-pub packed_by_size : (es : List Item) (n : ℕ) → Ok n ≡ sized (packing es) → packing es ≡ Ok (file_of es)
-packed_by_size es n h = by (packing es) refl h
+-- lines that can be packed make the file
+pub packs : (es : List Item) → IsOk (packing es) → packing es ≡ Ok (file_of es)
+packs es h = by (packing es) refl h
   where
-    by : (r : Result (List ℕ) WriteRefusal) → packing es ≡ r → Ok n ≡ sized r → packing es ≡ Ok (file_of es)
+    by : (r : Result (List ℕ) WriteRefusal) → packing es ≡ r → IsOk r → packing es ≡ Ok (file_of es)
     by (Ok file) is h = is ∙ ap Ok (packed es file is).is
-    by (Err e) is h = absurd (no_fault n e (sym h))
+    by (Err e) is h = cc
+
+-- the numbers of each line fit
+pub numbers_at : (p : ℕ) (es : List Entry) → items_from p (map item es) ≡ Ok tt → (k : ℕ) (d : Entry) → k < length es → holds (get_or es k d).line ≡ true
+numbers_at p [] h k d l = absurd (omega arith)
+numbers_at p (e ∷ es) h zero d l = (items_split p (item e) (map item es) h).0.numbers
+numbers_at p (e ∷ es) h (suc k) d l = numbers_at (p + 1) es (items_split p (item e) (map item es) h).1 k d (omega arith)
 
 pub refused_by_size : (r : Result (List ℕ) WriteRefusal) (e : WriteRefusal) → Err e ≡ sized r → r ≡ Err e
-refused_by_size (Ok file) e h = absurd (no_fault (length file) e h)
+refused_by_size (Ok file) e h = cc
 refused_by_size (Err f) e h = let same : f ≡ e = cc in ap Err same

@@ -1,1 +1,2 @@
 pub mod Packing
+pub mod Reasons

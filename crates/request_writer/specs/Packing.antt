@@ -2,11 +2,8 @@
 use Rattle.std.specs.Prelude.{◌≡◌, ℕ, zero, suc, ◌+◌, ◌*◌, ◌/◌, ◌%◌, ◌^◌, ◌<◌, Bool, true, cond, ◌&&◌, ◌||◌, ◌⊎◌, List, [], ◌∷◌, ◌++◌, map, length, is_ok, Some, Ok, Err, Result, ◌==◌, ◌≢◌, nat_le, nat_lt, slice_index_or}
 use Rattle.std.specs.List.{flat_map}
 use Rattle.std.specs.Option.{option_map}
-use Rattle.accounts.specs.declared.record.Size.{Size}
-use Rattle.accounts.specs.declared.record.Size.TheVariants.{Small, Large}
-use Rattle.accounts.specs.declared.record.Kind.{Kind}
-use Rattle.accounts.specs.declared.record.Kind.TheVariants.{Member, Anchor}
 use Rattle.accounts.specs.declared.record.Line.{Line}
+use Rattle.accounts.specs.Marks.{size_letter, kind_letter}
 use Rattle.requests.specs.Form.{then}
 use Rattle.requests.specs.Meaning.{meaning, remark_at}
 use Rattle.request_writer.specs.declared.entry.Entry.{Entry}
@@ -17,14 +14,6 @@ use Rattle.request_writer.specs.declared.refusal.WriteRefusal.TheVariants as ref
 unfoldable pub digits : ℕ → ℕ → List ℕ
 digits zero n = []
 digits (suc w) n = digits w (n / 10) ++ (48 + n % 10) ∷ []
-
-abbrev pub size_letter : Size → ℕ
-size_letter Small = 83
-size_letter Large = 76
-
-abbrev pub kind_letter : Kind → ℕ
-kind_letter Member = 77
-kind_letter Anchor = 88
 
 -- a number field and the space behind it
 abbrev pub field : ℕ → ℕ → List ℕ

@@ -1,36 +1,16 @@
 // The parts of a file one after another: the line count, the pairs, the lines.
-ghost use Rattle.std.specs.Prelude.{◌≡◌, ◌+◌, ◌*◌, ◌<◌, ◌≤◌, ◌++◌, map, length, IfOk, OnOk};
+ghost use Rattle.std.specs.Prelude.{◌≡◌, ◌+◌, ◌*◌, ◌<◌, ◌++◌, map, length, All, IsTrue, IsOk, IfOk, OnOk, Ok};
 ghost use Rattle.std.specs.List.{flat_map};
-ghost use Rattle.request_writer.specs.Packing.{item, text, little_bytes, pairs, file_of, packing, sized};
+ghost use Rattle.request_writer.specs.Packing.{item, text, holds, pairs, packing, sized};
+ghost use Rattle.request_writer.specs.declared.entry.Entry.{Entry};
 
 use crate::entry::Entry;
 use crate::refusal::WriteRefusal;
 use crate::text::{numbers_fit, push_text, text_length};
+use requests::limits::{MAX_FILE, MAX_LINES};
 use std::alloc::{AllocError, Global};
 
-const MAX_FILE: usize = 65_535;
-
-const MAX_LINES: usize = 1_024;
-
 const MAX_REMARK: usize = 79;
-
-fn push_two(file: &mut Vec<u8>, number: usize) -> Result<(), AllocError>
-    requires { number < 65536 }
-    ensures { OnOk result (file.new.items ≡ file.old.items ++ little_bytes 2 number) }
-{
-    let bytes = (number as u16).to_le_bytes();
-    file.extend_from_slice(&bytes)?;
-    Ok(())
-}
-
-fn push_four(file: &mut Vec<u8>, number: usize) -> Result<(), AllocError>
-    requires { number < 4294967296 }
-    ensures { OnOk result (file.new.items ≡ file.old.items ++ little_bytes 4 number) }
-{
-    let bytes = (number as u32).to_le_bytes();
-    file.extend_from_slice(&bytes)?;
-    Ok(())
-}
 
 fn push_pairs(file: &mut Vec<u8>, entries: &[Entry]) -> Result<(), AllocError>
     requires { 2 + 6 * length entries.now + length (flat_map text (map item entries.now)) < 65536 }
@@ -39,14 +19,15 @@ fn push_pairs(file: &mut Vec<u8>, entries: &[Entry]) -> Result<(), AllocError>
     let mut at = 2 + 6 * entries.len();
     for entry in entries {
         let length = text_length(entry);
-        push_four(file, at)?;
-        push_two(file, length)?;
+        file.extend_from_slice(&(at as u32).to_le_bytes())?;
+        file.extend_from_slice(&(length as u16).to_le_bytes())?;
         at += length;
     }
     Ok(())
 }
 
 fn push_texts(file: &mut Vec<u8>, entries: &[Entry]) -> Result<(), AllocError>
+    requires { All (λ (e : Entry). IsTrue (holds e.line)) entries.now }
     ensures { OnOk result (file.new.items ≡ file.old.items ++ flat_map text (map item entries.now)) }
 {
     for entry in entries {
@@ -57,12 +38,11 @@ fn push_texts(file: &mut Vec<u8>, entries: &[Entry]) -> Result<(), AllocError>
 
 // The file of lines that one can hold.
 pub fn pack(entries: &[Entry], size: usize, heap: Global) -> Result<Vec<u8>, AllocError>
-    requires lines { length entries.now ≤ 1024 }
-    requires fits { 2 + 6 * length entries.now + length (flat_map text (map item entries.now)) < 65536 }
-    ensures { IfOk result (λ file. file.items ≡ file_of (map item entries.now)) }
+    requires { IsOk (packing (map item entries.now)) }
+    ensures { IfOk result (λ file. packing (map item entries.now) ≡ Ok file.items) }
 {
     let mut file = Vec::with_capacity(heap, size)?;
-    push_two(&mut file, entries.len())?;
+    file.extend_from_slice(&(entries.len() as u16).to_le_bytes())?;
     push_pairs(&mut file, entries)?;
     push_texts(&mut file, entries)?;
     Ok(file)
@@ -72,9 +52,10 @@ pub fn pack(entries: &[Entry], size: usize, heap: Global) -> Result<Vec<u8>, All
 pub fn check(entries: &[Entry]) -> Result<usize, WriteRefusal>
     ensures { result ≡ sized (packing (map item entries.now)) }
 {
-    if entries.len() == 0 || entries.len() > MAX_LINES {
+    if !(1..=MAX_LINES).contains(&entries.len()) {
         return Err(WriteRefusal::LineCount);
     }
+    // a loop, since the first line at fault is told by its place
     let mut size = 2 + 6 * entries.len();
     for (place, entry) in entries.iter().enumerate() {
         if !numbers_fit(&entry.line) {

@@ -1,8 +1,11 @@
 // Why lines cannot be packed into a request file.
-ghost use Rattle.std.specs.Prelude.{◌≡◌};
+ghost use Rattle.std.specs.Prelude.{◌≡◌, Some};
+ghost use Rattle.request_writer.specs.Reasons.{write_reason_of};
 ghost use Rattle.request_writer.specs.declared.refusal.WriteRefusal.TheVariants.{Memory};
 
 use std::alloc::AllocError;
+use std::error::Error;
+use std::fmt;
 
 #[derive(Clone, Copy, PartialEq, Eq, Debug)]
 pub enum WriteRefusal {
@@ -18,10 +21,26 @@ pub enum WriteRefusal {
     Memory,
 }
 
+impl fmt::Display for WriteRefusal {
+    ghost output = { λ why. Some (write_reason_of why) };
+
+    fn fmt<W: fmt::Write>(&self, f: &mut fmt::Formatter<W>) -> fmt::Result {
+        f.write_str(match self {
+            WriteRefusal::LineCount => "a request file has 1 to 1024 lines",
+            WriteRefusal::Number { .. } => "a number has more digits than its field",
+            WriteRefusal::Remark { .. } => "a remark has over 79 bytes",
+            WriteRefusal::FileLength => "the file would have over 65535 bytes",
+            WriteRefusal::Memory => "there is no memory for the file",
+        })
+    }
+}
+
+impl Error for WriteRefusal {}
+
 impl From<AllocError> for WriteRefusal {
     ghost from_gives = { λ _ r. r ≡ Memory };
 
-    fn from(_fault: AllocError) -> WriteRefusal {
-        WriteRefusal::Memory
+    fn from(_fault: AllocError) -> Self {
+        Self::Memory
     }
 }

@@ -1,4 +1,5 @@
 // One file of three lines, damaged byte by byte.
+use super::files::{changed, told};
 use accounts::record::{Kind, Line, Size};
 use requests::reader::{read, remark};
 use std::test::Fail;
@@ -17,73 +18,68 @@ const BLANK: Line = Line {
     kind: Kind::Anchor,
 };
 
-// A place, the byte put there, and the refusal's number and place, or 0 and the count of lines.
-const DAMAGES: [(usize, u8, u8, usize); 48] = [
-    (0, 0, 2, 0),
-    (1, 4, 2, 0),
-    (0, 20, 3, 0),
-    (0, 21, 2, 0),
-    (0, 2, 0, 2),
-    (2, 19, 4, 0),
-    (2, 21, 5, 0),
-    (6, 29, 4, 0),
-    (6, 31, 5, 0),
-    (6, 32, 5, 0),
-    (6, 33, 4, 1),
-    (6, 111, 4, 0),
-    (7, 1, 4, 0),
-    (8, 49, 4, 1),
-    (8, 50, 5, 1),
-    (12, 29, 4, 1),
-    (12, 42, 4, 2),
-    (14, 92, 4, 2),
-    (14, 94, 5, 2),
-    (15, 1, 4, 2),
-    (17, 1, 4, 2),
-    (18, 29, 4, 2),
-    (18, 30, 0, 3),
-    (18, 32, 0, 3),
-    (18, 33, 4, 2),
-    (18, 111, 4, 2),
-    (20, b'x', 5, 0),
-    (30, b'/', 5, 0),
-    (30, b':', 5, 0),
-    (30, b'9', 0, 3),
-    (31, b'0', 5, 0),
-    (38, b'.', 5, 0),
-    (43, 0, 5, 0),
-    (46, b'-', 5, 0),
-    (47, b's', 5, 0),
-    (47, b'l', 5, 0),
-    (47, b'L', 0, 3),
-    (48, b'_', 5, 0),
-    (49, b'm', 5, 0),
-    (49, b'X', 0, 3),
-    (50, 0, 0, 3),
-    (82, b'x', 5, 1),
-    (83, 0, 0, 3),
-    (93, b':', 5, 2),
-    (122, b'x', 5, 2),
-    (122, b'M', 0, 3),
-    (123, b'0', 5, 2),
-    (124, 0, 0, 3),
+// A place, the byte put there, and how many lines are read, or the refusal's number and place.
+const DAMAGES: [(usize, u8, Result<usize, (u8, usize)>); 48] = [
+    (0, 0, Err((2, 0))),
+    (1, 4, Err((2, 0))),
+    (0, 20, Err((3, 0))),
+    (0, 21, Err((2, 0))),
+    (0, 2, Ok(2)),
+    (2, 19, Err((4, 0))),
+    (2, 21, Err((5, 0))),
+    (6, 29, Err((4, 0))),
+    (6, 31, Err((5, 0))),
+    (6, 32, Err((5, 0))),
+    (6, 33, Err((4, 1))),
+    (6, 111, Err((4, 0))),
+    (7, 1, Err((4, 0))),
+    (8, 49, Err((4, 1))),
+    (8, 50, Err((5, 1))),
+    (12, 29, Err((4, 1))),
+    (12, 42, Err((4, 2))),
+    (14, 92, Err((4, 2))),
+    (14, 94, Err((5, 2))),
+    (15, 1, Err((4, 2))),
+    (17, 1, Err((4, 2))),
+    (18, 29, Err((4, 2))),
+    (18, 30, Ok(3)),
+    (18, 32, Ok(3)),
+    (18, 33, Err((4, 2))),
+    (18, 111, Err((4, 2))),
+    (20, b'x', Err((5, 0))),
+    (30, b'/', Err((5, 0))),
+    (30, b':', Err((5, 0))),
+    (30, b'9', Ok(3)),
+    (31, b'0', Err((5, 0))),
+    (38, b'.', Err((5, 0))),
+    (43, 0, Err((5, 0))),
+    (46, b'-', Err((5, 0))),
+    (47, b's', Err((5, 0))),
+    (47, b'l', Err((5, 0))),
+    (47, b'L', Ok(3)),
+    (48, b'_', Err((5, 0))),
+    (49, b'm', Err((5, 0))),
+    (49, b'X', Ok(3)),
+    (50, 0, Ok(3)),
+    (82, b'x', Err((5, 1))),
+    (83, 0, Ok(3)),
+    (93, b':', Err((5, 2))),
+    (122, b'x', Err((5, 2))),
+    (122, b'M', Ok(3)),
+    (123, b'0', Err((5, 2))),
+    (124, 0, Ok(3)),
 ];
 
 #[test]
 fn damaged_bytes(rt: HostRuntime) -> Result<(), Fail> {
-    for (at, byte, number, place) in DAMAGES {
-        let mut file = FILE.to_vec(rt.alloc())?;
-        if let Some(target) = file.get_mut(at) {
-            *target = byte;
-        }
+    for (at, byte, expected) in DAMAGES {
+        let file = changed(rt.alloc(), FILE, at, byte)?;
         let mut table = [BLANK; 3];
-        match read(file.as_slice(), &mut table) {
-            Ok(lines) => assert_eq!(rt; (0u8, lines), (number, place)),
-            Err(refusal) => {
-                assert_eq!(rt; (refusal.number(), refusal.place()), (number, place));
-                for line in &table {
-                    assert_eq!(rt; *line, BLANK);
-                }
+        let answer = told(read(file.as_slice(), &mut table));
+        assert_eq!(rt; answer, expected);
+        if answer.is_err() {
+            for line in &table {
+                assert_eq!(rt; *line, BLANK);
             }
         }
     }
@@ -142,18 +138,9 @@ fn remarks(rt: HostRuntime) -> Result<(), Fail> {
 // All pairs are judged before any line: a fault of the last pair comes before one of the first line.
 #[test]
 fn pairs_before_lines(rt: HostRuntime) -> Result<(), Fail> {
-    let mut file = FILE.to_vec(rt.alloc())?;
-    for (at, byte) in [(20, b'x'), (18, 111)] {
-        if let Some(target) = file.get_mut(at) {
-            *target = byte;
-        }
-    }
+    let file = changed(rt.alloc(), FILE, 20, b'x')?;
+    let file = changed(rt.alloc(), file.as_slice(), 18, 111)?;
     let mut table = [BLANK; 3];
-    match read(file.as_slice(), &mut table) {
-        Ok(_) => Err(Fail::new("read")),
-        Err(refusal) => {
-            assert_eq!(rt; (refusal.number(), refusal.place()), (4, 2));
-            Ok(())
-        },
-    }
+    assert_eq!(rt; told(read(file.as_slice(), &mut table)), Err((4, 2)));
+    Ok(())
 }

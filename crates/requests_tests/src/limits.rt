@@ -1,11 +1,10 @@
 // Files at the limits: the longest, the shortest, and those with the most lines.
+use super::files::{changed, told};
 use accounts::record::{Kind, Line, Size};
 use request_writer::entry::Entry;
 use request_writer::refusal::WriteRefusal;
 use request_writer::writer::write;
-use requests::fault::RequestRefusal;
 use requests::reader::{read, remark};
-use std::alloc::Global;
 use std::test::Fail;
 
 const LINE: Line = Line {
@@ -16,24 +15,6 @@ const LINE: Line = Line {
     size: Size::Small,
     kind: Kind::Member,
 };
-
-// A refusal's number and place, or 0 and the count of lines.
-fn told(answer: Result<usize, RequestRefusal>) -> (u8, usize) {
-    match answer {
-        Ok(lines) => (0, lines),
-        Err(refusal) => (refusal.number(), refusal.place()),
-    }
-}
-
-// The answer for a file with one byte changed.
-fn changed(heap: Global, file: &[u8], at: usize, byte: u8) -> Result<(u8, usize), Fail> {
-    let mut copy = file.to_vec(heap)?;
-    if let Some(target) = copy.get_mut(at) {
-        *target = byte;
-    }
-    let mut table = [LINE; 1024];
-    Ok(told(read(copy.as_slice(), &mut table)))
-}
 
 #[test]
 fn most_lines(rt: HostRuntime) -> Result<(), Fail> {
@@ -46,8 +27,8 @@ fn most_lines(rt: HostRuntime) -> Result<(), Fail> {
     let bytes = file.as_slice();
     assert_eq!(rt; bytes.len(), 2 + 36 * 1024);
     let mut table = [LINE; 1024];
-    assert_eq!(rt; told(read(bytes, &mut table)), (0, 1024));
-    assert_eq!(rt; told(read(bytes, &mut table[0..1023])), (3, 0));
+    assert_eq!(rt; told(read(bytes, &mut table)), Ok(1024));
+    assert_eq!(rt; told(read(bytes, &mut table[0..1023])), Err((3, 0)));
     // the pair at place p starts at 2 + 6 p, and its line at 6,146 + 30 p
     for (at, byte, number, place) in [
         (0, 1, 2, 0),
@@ -57,7 +38,11 @@ fn most_lines(rt: HostRuntime) -> Result<(), Fail> {
         (6_146, b'.', 5, 0),
         (36_865, b'Y', 5, 1_023),
     ] {
-        assert_eq!(rt; changed(heap, bytes, at, byte)?, (number, place));
+        let damaged = changed(heap, bytes, at, byte)?;
+        assert_eq!(rt;
+            told(read(damaged.as_slice(), &mut table)),
+            Err((number, place))
+        );
     }
     Ok(())
 }
@@ -69,14 +54,14 @@ fn longest(rt: HostRuntime) -> Result<(), Fail> {
         remark: b"roof",
     }];
     let mut file = write(&entries, rt.alloc())?;
-    for (length, number) in [(65_535, 0), (65_536, 1)] {
+    for (length, expected) in [(65_535, Ok(1)), (65_536, Err((1, 0)))] {
         for _ in file.len()..length {
             file.push(0)?;
         }
         assert_eq!(rt; file.len(), length);
         let mut table = [LINE; 1];
-        assert_eq!(rt; told(read(file.as_slice(), &mut table)).0, number);
-        assert_eq!(rt; remark(file.as_slice(), 0).is_some(), number == 0);
+        assert_eq!(rt; told(read(file.as_slice(), &mut table)), expected);
+        assert_eq!(rt; remark(file.as_slice(), 0).is_some(), expected.is_ok());
     }
     Ok(())
 }
@@ -87,7 +72,7 @@ fn shortest(rt: HostRuntime) {
     let pair = b"\x01\x00\x08\x00\x00\x00\x1e\x00";
     for (length, number) in [(0, 1), (1, 1), (2, 2), (7, 2), (8, 4)] {
         let mut table = [LINE; 1];
-        assert_eq!(rt; told(read(&pair[0..length], &mut table)), (number, 0));
+        assert_eq!(rt; told(read(&pair[0..length], &mut table)), Err((number, 0)));
     }
 }
 

@@ -1,29 +1,21 @@
 // Prints the lines and remarks of request files, or why a file is declined.
 #![tactic(auto)]
 
-use accounts::record::{Kind, Line, Size};
+use accounts::record::Line;
 use request_text::refusal_text;
+use requests::limits::MAX_LINES;
 use requests::reader::{read, remark};
+use requests::remark::Remark;
 use std::str::from_utf8;
 use std::{env, fs};
 
-const BLANK: Line = Line {
-    account: 0,
-    percentage: 0,
-    savings: 0,
-    class: 0,
-    size: Size::Small,
-    kind: Kind::Member,
-};
-
 fn show_remark(rt: &HostRuntime, file: &[u8], place: usize) -> anyhow::Result<()> {
-    let Some(found) = remark(file, place) else {
+    let Some(Remark { text, offset }) = remark(file, place) else {
         return Ok(());
     };
-    let offset = found.offset;
-    let length = found.text.len();
+    let length = text.len();
     print!(rt; "   remark at {offset}, {length} bytes:")?;
-    match from_utf8(found.text) {
+    match from_utf8(text) {
         Ok("") => println!(rt; "")?,
         Ok(text) => println!(rt; " {text}")?,
         Err(_) => println!(rt; " not text")?,
@@ -32,12 +24,14 @@ fn show_remark(rt: &HostRuntime, file: &[u8], place: usize) -> anyhow::Result<()
 }
 
 fn show_line(rt: &HostRuntime, place: usize, line: &Line) -> anyhow::Result<()> {
-    let account = line.account;
-    let percentage = line.percentage;
-    let savings = line.savings;
-    let class = line.class;
-    let size = line.size;
-    let kind = line.kind;
+    let Line {
+        account,
+        percentage,
+        savings,
+        class,
+        size,
+        kind,
+    } = *line;
     println!(rt;
         "{place}: account {account}, percentage {percentage}, savings rate {savings}, class {class}, {size:?}, {kind:?}"
     )?;
@@ -47,7 +41,7 @@ fn show_line(rt: &HostRuntime, place: usize, line: &Line) -> anyhow::Result<()> 
 fn show(rt: &HostRuntime, name: &str) -> anyhow::Result<()> {
     let bytes = fs::read(rt, name)?;
     let file = bytes.as_slice();
-    let mut table = [BLANK; 1024];
+    let mut table = [Line::default(); MAX_LINES];
     match read(file, &mut table) {
         Ok(lines) => {
             println!(rt; "{name}: {lines} lines")?;

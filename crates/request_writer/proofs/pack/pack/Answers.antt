@@ -1,14 +1,29 @@
-use Rattle.std.proofs.Common.{◌+◌, ◌*◌, [], map, length}
-use Rattle.std.specs.List.{flat_map}
+use Rattle.std.proofs.Common.{map, arith}
 use Rattle.std.proofs.lemmas.List.{length-map}
-use Rattle.request_writer.specs.Packing.{item, text, little_bytes, pairs, file_of}
-use Rattle.request_writer.proofs.Texts.{three}
+use Rattle.std.proofs.lemmas.Grind.{common_steps}
+use Rattle.request_writer.specs.Packing.{item, file_of}
+use Rattle.request_writer.proofs.Packs.{two_bytes}
+use Rattle.request_writer.proofs.Trips.{packs, packed, numbers_at}
 use Rattle.request_writer.proofs.pack.pack.Goals as goal
+
+pub overflow_cast-entries : goal.overflow_cast-entries
+overflow_cast-entries c =
+    let es = map item c.args.entries.now in
+    omega (arith, (packed es (file_of es) (packs es c.requires)).few, length-map c.args.entries.now item)
+
+pub push_pairs-requires : goal.push_pairs-requires
+push_pairs-requires c =
+    let es = map item c.args.entries.now in
+    omega (arith, (packed es (file_of es) (packs es c.requires)).short, length-map c.args.entries.now item)
+
+pub push_texts-requires : goal.push_texts-requires
+push_texts-requires c =
+    let es = map item c.args.entries.now in
+    numbers_at 0 c.args.entries.now (packed es (file_of es) (packs es c.requires)).items
 
 pub returns : goal.returns
 unfolding file_of
 returns c =
-    let es = map item c.args.entries.now in
-    let n = length c.args.entries.now in
-    rw (c.in_ok-push_texts.ensures, c.in_ok-push_pairs.ensures, c.in_ok-push_two.ensures, c.in_ok-file.ensures.items, length-map)
-    (three [] (little_bytes 2 n) (pairs (2 + 6 * n) es) (flat_map text es))
+    let is = packs (map item c.args.entries.now) c.requires in
+    let long = length-map c.args.entries.now item in
+    grind (arith, common_steps, two_bytes)
