@@ -59,7 +59,7 @@ fn two_lines(rt: &HostRuntime) -> anyhow::Result<Vec<u8>> {
 }
 
 fn patched(rt: &HostRuntime, title: &str, patches: &[Patch]) -> anyhow::Result<()> {
-    let group = Group { rt, title };
+    let group = Group::new(rt, title);
     for patch in patches {
         let file = patch.of(two_lines(rt)?);
         let came = told_of(read(&file, &mut [Line::default(); 3]));
@@ -69,7 +69,7 @@ fn patched(rt: &HostRuntime, title: &str, patches: &[Patch]) -> anyhow::Result<(
 }
 
 fn tables(rt: &HostRuntime) -> anyhow::Result<()> {
-    let group = Group { rt, title: "table" };
+    let group = Group::new(rt, "table");
     let file = two_lines(rt)?;
     let came = told_of(read(&file, &mut [Line::default(); 1]));
     group.show("1 place", declined(3), came)?;
@@ -109,10 +109,7 @@ fn blank_files() -> [BlankFile; 8] {
 }
 
 fn blanks(rt: &HostRuntime) -> anyhow::Result<()> {
-    let group = Group {
-        rt,
-        title: "blank file",
-    };
+    let group = Group::new(rt, "blank file");
     let heap = rt.alloc();
     for case in &blank_files() {
         let mut file = vec![in heap; 0u8; case.bytes]?;
@@ -129,17 +126,12 @@ fn blanks(rt: &HostRuntime) -> anyhow::Result<()> {
 fn long_line(rt: &HostRuntime, length: u8) -> anyhow::Result<Told> {
     let mut file = [1, 0, 8, 0, 0, 0, length, 0].to_vec(rt.alloc())?;
     file.extend_from_slice(FIRST)?;
-    for _ in 30..length {
-        file.push(b' ')?;
-    }
+    file.resize(8 + usize::from(length.max(30)), b' ')?;
     Ok(told_of(read(&file, &mut [Line::default(); 1])))
 }
 
 fn lengths(rt: &HostRuntime) -> anyhow::Result<()> {
-    let group = Group {
-        rt,
-        title: "length of a line",
-    };
+    let group = Group::new(rt, "length of a line");
     group.show("29 bytes", declined(4), long_line(rt, 29)?)?;
     group.show("30 bytes", amount(1), long_line(rt, 30)?)?;
     group.show("110 bytes", amount(1), long_line(rt, 110)?)?;
@@ -154,27 +146,17 @@ fn with_last(rate: u32) -> [u32; 16] {
 }
 
 fn all_rates(rt: &HostRuntime) -> anyhow::Result<()> {
-    let group = Group { rt, title: "rates" };
-    let mut method = Volumetric::new();
-    group.show("15 rates", declined(8), told(method.set_rates(&[1; 15])))?;
-    group.show("16 rates", ACCEPTED, told(method.set_rates(&[1; 16])))?;
-    group.show("17 rates", declined(8), told(method.set_rates(&[1; 17])))?;
-    group.show(
-        "rate 0",
-        declined_at(8, 15),
-        told(method.set_rates(&with_last(0))),
-    )?;
-    group.show("rate 1", ACCEPTED, told(method.set_rates(&with_last(1))))?;
-    group.show(
-        "rate 1000000",
-        ACCEPTED,
-        told(method.set_rates(&with_last(1_000_000))),
-    )?;
-    group.show(
-        "rate 1000001",
-        declined_at(8, 15),
-        told(method.set_rates(&with_last(1_000_001))),
-    )
+    let group = Group::new(rt, "rates");
+    let set = |name, rates, expected| -> anyhow::Result<()> {
+        group.show(name, expected, told(Volumetric::new().set_rates(rates)))
+    };
+    set("15 rates", &[1; 15], declined(8))?;
+    set("16 rates", &[1; 16], ACCEPTED)?;
+    set("17 rates", &[1; 17], declined(8))?;
+    set("rate 0", &with_last(0), declined_at(8, 15))?;
+    set("rate 1", &with_last(1), ACCEPTED)?;
+    set("rate 1000000", &with_last(1_000_000), ACCEPTED)?;
+    set("rate 1000001", &with_last(1_000_001), declined_at(8, 15))
 }
 
 pub fn cases(rt: &HostRuntime) -> anyhow::Result<()> {

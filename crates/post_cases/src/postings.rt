@@ -145,10 +145,7 @@ fn nothing_of_a_refused_request() -> [Step; 9] {
 }
 
 pub fn cases(rt: &HostRuntime) -> anyhow::Result<()> {
-    let group = Group {
-        rt,
-        title: "worked",
-    };
+    let group = Group::new(rt, "worked");
     group.show(
         "681 at 10.946 cents",
         posted(7_454, 681, 745, 6_709),

@@ -60,7 +60,7 @@ impl<B: AccountBook> Stage<'_, '_, B> {
             let _ = self.call(Plain::Reading(units));
             let _ = self.call(Plain::Close);
         }
-        told(Ok::<u32, Refusal>(self.ledger.closed_periods()))
+        amount(u64::from(self.ledger.closed_periods()))
     }
 
     fn record(&self, account: u64) -> Result<Record, Refusal> {
@@ -90,6 +90,11 @@ impl<B: AccountBook> Stage<'_, '_, B> {
         })
     }
 
+    pub fn open(&mut self, group: Group, project: Project) -> anyhow::Result<()> {
+        let opened = told(self.ledger.open(project, self.book));
+        group.show("the ledger opens", ACCEPTED, opened)
+    }
+
     // Performs steps one after another, and prints each.
     pub fn play(&mut self, group: Group, steps: &[Step]) -> anyhow::Result<()> {
         for step in steps {
@@ -108,12 +113,11 @@ fn on_book<B: AccountBook + Drop>(
     steps: &[Step],
 ) -> anyhow::Result<()> {
     let mut ledger = Ledger::new();
-    let opened = told(ledger.open(project, book));
-    group.show("the ledger opens", ACCEPTED, opened)?;
     let mut stage = Stage {
         ledger: &mut ledger,
         book,
     };
+    stage.open(group, project)?;
     stage.play(group, steps)
 }
 
@@ -127,9 +131,9 @@ pub fn on_both(
     let mut table = [Record::default(); 4];
     let mut book = TableBook::new(&mut table);
     let group = format!(in rt.alloc(); "{title}, table")?;
-    on_book(Group { rt, title: &group }, &mut book, project, steps)?;
+    on_book(Group::new(rt, &group), &mut book, project, steps)?;
     let mut image = [0u8; 148];
     let mut book = ImageBook::start(&mut image);
     let group = format!(in rt.alloc(); "{title}, image")?;
-    on_book(Group { rt, title: &group }, &mut book, project, steps)
+    on_book(Group::new(rt, &group), &mut book, project, steps)
 }

@@ -1,6 +1,6 @@
 // Steps of a case: calls of a ledger and looks at what they leave, each with what is expected.
 use super::told::Told;
-use accounts::record::{Kind, Line, Size};
+use accounts::record::{Line, Size};
 use ledger::call::Call;
 
 #[derive(Clone, Copy)]
@@ -34,6 +34,7 @@ impl Billing {
     }
 }
 
+// An act is a value, and no closure, since one list of steps is performed on either kind of book.
 #[derive(Clone, Copy)]
 pub enum Act {
     // a request of at most three lines
@@ -74,8 +75,7 @@ pub fn line(account: u64, percentage: u32) -> Line {
         percentage,
         savings: 1_000,
         class: 1,
-        size: Size::Small,
-        kind: Kind::Member,
+        ..Line::default()
     }
 }
 
