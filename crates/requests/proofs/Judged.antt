@@ -1,8 +1,9 @@
 -- Judging the pairs and the lines of a file one by one.
-use Rattle.std.proofs.Common.{◌≡◌, ℕ, zero, suc, ◌+◌, ◌-◌, ◌<◌, ◌≤◌, true, false, leb, List, [], ◌∷◌, ◌++◌, length, get_or, take, drop, set, is_ok, Ok, Err, Result, sym, refl, ap, ◌∙◌, inl, inr, add-zero, zero-add, arith}
+use Rattle.std.proofs.Common.{◌≡◌, ℕ, zero, suc, ◌+◌, ◌-◌, ◌<◌, ◌≤◌, true, cond, List, [], ◌∷◌, ◌++◌, length, get_or, take, drop, set, IsOk, Ok, Err, Result, refl, ap, ◌∙◌, inl, inr, add-zero, zero-add, arith}
 use Rattle.requests.specs.declared.fault.FieldFault.{FieldFault}
-use Rattle.std.proofs.lemmas.List.{set_at, length-take-le, append_assoc, take_more, drop_more, take_all}
-use Rattle.std.proofs.lemmas.Bool.{cond-true, cond-false, cases_order, false≢true, cases_Bool, and_parts, leb-true}
+use Rattle.std.proofs.lemmas.List.{set_at, length-take-le, append_assoc, append-nil, take_more, drop_more, take_all, drop_all}
+use Rattle.std.proofs.lemmas.Bool.{cases_order}
+use Rattle.std.proofs.lemmas.Bool.Decides.{nat_tests}
 use Rattle.accounts.specs.declared.record.Line.{Line}
 use Rattle.accounts.specs.declared.record.Size.TheVariants.{Small}
 use Rattle.accounts.specs.declared.record.Kind.TheVariants.{Member}
@@ -12,46 +13,33 @@ use Rattle.requests.specs.Form.{then, line_of}
 use Rattle.requests.specs.Meaning.{pair_at, end_of, fits, pairs_from, part, of_line, line_at, lines_from, checked, written}
 use Rattle.requests.specs.Parts.{Placed}
 
-module _ (file : List ℕ) (start place n : ℕ) (p : Pair) (is : p ≡ pair_at file place) where
-  pub pairs_more : place < n → true ≡ fits (length file) start p → pairs_from file (end_of p) (place + 1) (n - (place + 1)) ≡ pairs_from file start place (n - place)
-  unfolding pairs_from
-  pairs_more l h = let left : n - place ≡ suc (n - (place + 1)) = omega arith in rw (left, ← is) (sym (cond-true _ _ _ (sym h)))
-
-  pub pairs_stop : place < n → false ≡ fits (length file) start p → Err (record { place = place }) ≡ pairs_from file start place (n - place)
-  unfolding pairs_from
-  pairs_stop l h = let left : n - place ≡ suc (n - (place + 1)) = omega arith in rw (left, ← is) (sym (cond-false _ _ _ (sym h)))
-
-pub pairs_all : (file : List ℕ) (start place n : ℕ) → n ≤ place → Ok tt ≡ pairs_from file start place (n - place)
+pub pairs_step : (file : List ℕ) (start place n : ℕ) → place < n → pairs_from file start place (n - place) ≡ cond (fits (length file) start (pair_at file place)) (pairs_from file (end_of (pair_at file place)) (place + 1) (n - (place + 1))) (Err (record { place = place }))
 unfolding pairs_from
-pairs_all file start place n l = let left : n - place ≡ 0 = omega arith in rw left refl
+pairs_step file start place n l = let left : n - place ≡ suc (n - (place + 1)) = omega arith in rw left
+
+pub pairs_all : (file : List ℕ) (start place n : ℕ) → n ≤ place → pairs_from file start place (n - place) ≡ Ok tt
+unfolding pairs_from
+pairs_all file start place n l = let left : n - place ≡ 0 = omega arith in rw left
 
 pub fits_placed : (size start : ℕ) (p : Pair) → fits size start p ≡ true → Placed size p
-fits_placed size start p h =
-    let low = leb 30 p.length in
-    let high = leb p.length 110 in
-    let inside = leb (end_of p) size in
-    let a = (and_parts (leb start p.offset) _ h).1 in
-    let b = and_parts high inside (and_parts low _ a).1 in
-    record { long = leb-true 30 p.length (and_parts low _ a).0; inside = leb-true (end_of p) size b.1 }
+fits_placed size start p h = record { long = grind (arith, nat_tests); inside = grind (arith, nat_tests) }
 
 -- an impossible answer
 pub no_fault : {A E : Type 0} (a : A) (e : E) → ◌≡◌ {A = Result A E} (Err e) (Ok a) → ⊥
-no_fault a e h = let z : ◌≡◌ {A = ℕ} 0 1 = cc in omega arith
+no_fault a e h = cc
 
 -- where no pair is at fault, each fits the file
 pub pairs_placed : (file : List ℕ) (start a n place : ℕ) → pairs_from file start a n ≡ Ok tt → a ≤ place → place < a + n → Placed (length file) (pair_at file place)
 unfolding pairs_from
 pairs_placed file start a zero place h low high = absurd (omega arith)
 pairs_placed file start a (suc n) place h low high =
-    let b = fits (length file) start (pair_at file a) in
-    let next = pairs_from file (end_of (pair_at file a)) (a + 1) n in
-    elim (cases_Bool b) [
-      | inl good ↦ elim (cases_order a place) [
-        | inl same ↦ rw (← same) (fits_placed (length file) start (pair_at file a) good)
-        | inr (inl less) ↦ pairs_placed file (end_of (pair_at file a)) (a + 1) n place (sym (cond-true b next _ good) ∙ h) (omega arith) (omega arith)
-        | inr (inr more) ↦ absurd (omega arith)
-      ]
-      | inr bad ↦ absurd (no_fault tt (record { place = a }) (sym (cond-false b next _ bad) ∙ h))
+    let pair = pair_at file a in
+    let good : fits (length file) start pair ≡ true = grind (arith, nat_tests) in
+    let next : pairs_from file (end_of pair) (a + 1) n ≡ Ok tt = grind (arith, nat_tests) in
+    elim (cases_order a place) [
+      | inl same ↦ rw (← same) (fits_placed (length file) start pair good)
+      | inr (inl less) ↦ pairs_placed file (end_of pair) (a + 1) n place next (omega arith) (omega arith)
+      | inr (inr more) ↦ absurd (omega arith)
     ]
 
 -- the lines read, none where there is a fault
@@ -65,23 +53,21 @@ line_is file place p is r h =
     let long : end_of p - p.offset ≡ p.length = omega arith in
     ap (of_line place) (h ∙ ap (λ k. line_of (take k (drop p.offset file))) long ∙ ap (λ q. line_of (part file q)) is)
 
--- one line more makes no fault
-checked_more : (line : Line) (r : Result (List Line) LineFault) → checked r ≡ checked (then r (λ lines. Ok (line ∷ lines)))
-checked_more line (Ok lines) = refl
-checked_more line (Err fault) = refl
+-- what stands behind a line makes no fault of it
+checked_then : (r : Result Line LineFault) (rest : Result (List Line) LineFault) → checked (then r (λ line. then rest (λ lines. Ok (line ∷ lines)))) ≡ then r (λ _. checked rest)
+checked_then (Ok line) (Ok lines) = refl
+checked_then (Ok line) (Err fault) = refl
+checked_then (Err fault) rest = refl
 
-module _ (file : List ℕ) (place n : ℕ) where
-  pub lines_more : (line : Line) → place < n → Ok line ≡ line_at file place → checked (lines_from file (place + 1) (n - (place + 1))) ≡ checked (lines_from file place (n - place))
-  unfolding lines_from
-  lines_more line l h = let left : n - place ≡ suc (n - (place + 1)) = omega arith in rw (left, ← h) (checked_more line (lines_from file (place + 1) (n - (place + 1))))
+pub lines_step : (file : List ℕ) (place n : ℕ) → place < n → checked (lines_from file place (n - place)) ≡ then (line_at file place) (λ _. checked (lines_from file (place + 1) (n - (place + 1))))
+unfolding lines_from
+lines_step file place n l =
+    let left : n - place ≡ suc (n - (place + 1)) = omega arith in
+    rw left (checked_then (line_at file place) (lines_from file (place + 1) (n - (place + 1))))
 
-  pub lines_stop : (fault : LineFault) → place < n → Err fault ≡ line_at file place → Err fault ≡ checked (lines_from file place (n - place))
-  unfolding lines_from
-  lines_stop fault l h = let left : n - place ≡ suc (n - (place + 1)) = omega arith in rw (left, ← h)
-
-  pub lines_all : n ≤ place → Ok tt ≡ checked (lines_from file place (n - place))
-  unfolding lines_from
-  lines_all l = let left : n - place ≡ 0 = omega arith in rw left
+pub lines_all : (file : List ℕ) (place n : ℕ) → n ≤ place → checked (lines_from file place (n - place)) ≡ Ok tt
+unfolding lines_from
+lines_all file place n l = let left : n - place ≡ 0 = omega arith in rw left
 
 pub then_ok : {A B E : Type 0} (r : Result A E) (f : A → Result B E) (b : B) → then r f ≡ Ok b → (a : A) × (r ≡ Ok a) × (f a ≡ Ok b)
 then_ok (Ok a) f b h = (a, refl, h)
@@ -112,11 +98,11 @@ lines_at file a (suc n) (suc i) d ls h l =
 blank : Line
 blank = record { account = 0; percentage = 0; savings = 0; class = 0; size = Small; kind = Member }
 
-pub ok_values : {E : Type 0} (r : Result (List Line) E) → is_ok r ≡ true → r ≡ Ok (values r)
+pub ok_values : {E : Type 0} (r : Result (List Line) E) → checked r ≡ Ok tt → r ≡ Ok (values r)
 ok_values (Ok lines) h = refl
-ok_values (Err fault) h = absurd (false≢true h)
+ok_values (Err fault) h = cc
 
-module _ (file : List ℕ) (n : ℕ) (formed : is_ok (lines_from file 0 n) ≡ true) (table : List Line) where
+module _ (file : List ℕ) (n : ℕ) (formed : checked (lines_from file 0 n) ≡ Ok tt) (table : List Line) where
   all : List Line
   all = values (lines_from file 0 n)
 
@@ -129,8 +115,8 @@ module _ (file : List ℕ) (n : ℕ) (formed : is_ok (lines_from file 0 n) ≡ t
   unfolding all
   all_at place line l = rw zero-add at (lines_at file 0 n place line all (ok_values (lines_from file 0 n) formed) l)
 
-  pub no_line_fault : (place : ℕ) (r : Result Line LineFault) → place < n → r ≡ line_at file place → ((line : Line) → r ≡ Ok line → ⊥) → ⊥
-  no_line_fault place r l is none = none (get_or all place blank) (is ∙ all_at place blank l)
+  pub line_formed : (place : ℕ) → place < n → IsOk (line_at file place)
+  line_formed place l = rw (all_at place blank l)
 
   -- one more line in its place
   pub table_more : (place : ℕ) (line : Line) (t : List Line) → place < n → n ≤ length table → Ok line ≡ line_at file place → t ≡ take place (values (lines_from file 0 n)) ++ drop place table → set t place line ≡ take (place + 1) (values (lines_from file 0 n)) ++ drop (place + 1) table
@@ -141,9 +127,10 @@ module _ (file : List ℕ) (n : ℕ) (formed : is_ok (lines_from file 0 n) ≡ t
       let in_table : place < length table = omega arith in
       rw (was, drop_more table place line in_table, take_more all place line in_all, append_assoc, here) (set_at (take place all) _ _ line place (length-take-le place all (omega arith)))
 
-  pub table_all : (place : ℕ) (t : List Line) → n ≤ place → place ≤ n → t ≡ take place (values (lines_from file 0 n)) ++ drop place table → t ≡ written (lines_from file 0 n) table
+  pub table_all : (place : ℕ) (t : List Line) → place ≡ n → length table ≡ n → t ≡ take place (values (lines_from file 0 n)) ++ drop place table → (rest : List Line) → t ++ drop n rest ≡ written (lines_from file 0 n) rest
   unfolding all
-  table_all place t low high was =
+  table_all place t here long was rest =
       let len = all_length in
       let same : place ≡ length all = omega arith in
-      rw (ok_values (lines_from file 0 n) formed, was, same, take_all (length all) all (omega arith))
+      let front : t ≡ all = rw (was, same, take_all (length all) all (omega arith), drop_all (length all) table (omega arith)) (append-nil all) in
+      rw (ok_values (lines_from file 0 n) formed, front, len)

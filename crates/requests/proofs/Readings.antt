@@ -1,12 +1,14 @@
 -- What is known of a file that was read.
-use Rattle.std.proofs.Common.{◌≡◌, ℕ, ◌+◌, ◌*◌, ◌≤◌, Bool, true, false, cond, ◌||◌, eqb, ltb, List, length, is_ok, Some, None, Ok, Err, Result, sym, refl, ap, ◌∙◌, subst, arith}
-use Rattle.std.proofs.lemmas.Bool.{cond-false, or_parts, ltb-false, eqb-false, le-ltb}
+use Rattle.std.proofs.Common.{◌≡◌, ℕ, ◌+◌, ◌*◌, ◌≤◌, Bool, true, false, cond, ltb, List, length, None, Ok, Err, Result, sym, refl, ap, ◌∙◌, subst, arith}
+use Rattle.std.specs.Result.{result_map_both, result_ok}
+use Rattle.std.proofs.lemmas.Bool.{cond-false, ltb-false, le-ltb}
+use Rattle.std.proofs.lemmas.Bool.Decides.{nat_tests}
 use Rattle.accounts.specs.declared.record.Line.{Line}
 use Rattle.requests.specs.declared.fault.LineFault.{LineFault}
 use Rattle.requests.specs.declared.fault.RequestRefusal.{RequestRefusal}
 use Rattle.requests.specs.declared.fault.RequestRefusal.TheVariants as refusal
 use Rattle.requests.specs.Form.{then}
-use Rattle.requests.specs.Meaning.{little, pairs_from, lines_from, lines_of, count, as_refusal, reading, meaning, checked, counted, written, pair_at, remark_of, remark_if, remark_at}
+use Rattle.requests.specs.Meaning.{pairs_from, lines_from, lines_of, count, as_refusal, reading, meaning, checked, counted, written, remark_if, remark_at}
 use Rattle.requests.proofs.Judged.{no_fault, then_ok, length_lines}
 
 -- an answer that is no fault comes from the way past the test
@@ -31,28 +33,17 @@ pub record Head (file : List ℕ) (n : ℕ) : Type 0 where
 
 pub count_ok : (file : List ℕ) (n : ℕ) → count file ≡ Ok n → Head file n
 unfolding count
-count_ok file n h =
-    let m = little file 0 2 in
-    let size = length file in
-    let past = cond_ok (ltb size 2 || ltb 65535 size) _ _ n h in
-    let counts = cond_ok (eqb m 0 || (ltb 1024 m || ltb size (2 + 6 * m))) _ _ n past.1 in
-    let same : m ≡ n = let e = counts.1 in cc in
-    let sizes = or_parts (ltb size 2) (ltb 65535 size) past.0 in
-    let some = or_parts (eqb m 0) _ counts.0 in
-    let tests = or_parts (ltb 1024 m) (ltb size (2 + 6 * m)) some.1 in
-    record {
-      limit = ltb-false 65535 size sizes.1;
-      least = λ none. eqb-false m 0 some.0 (same ∙ none);
-      most = omega (arith, ltb-false 1024 m tests.0);
-      within = omega (arith, ltb-false size (2 + 6 * m) tests.1);
-    }
+count_ok file n h = record {
+  limit = grind (arith, nat_tests);
+  least = λ none. grind (arith, nat_tests);
+  most = grind (arith, nat_tests);
+  within = grind (arith, nat_tests);
+}
 
 -- a file in order, with its lines read into enough places
 pub record InOrder (file : List ℕ) (places n : ℕ) : Type 0 where
-  pub head : Head file n
   pub room : n ≤ places
-  pub placed : pairs_from file (2 + 6 * n) 0 n ≡ Ok tt
-  pub formed : is_ok (lines_from file 0 n) ≡ true
+  pub formed : checked (lines_from file 0 n) ≡ Ok tt
   pub writes : (table : List Line) → written (lines_from file 0 n) table ≡ written (reading file places) table
 
 pub in_order : (file : List ℕ) (places n : ℕ) → Ok n ≡ counted (reading file places) → InOrder file places n
@@ -64,14 +55,11 @@ in_order file places n h =
     let room = cond_ok (ltb places m) refusal.Table (lines_of file m) ls head.2 in
     let pairs = then_ok (as_refusal refusal.Pair (pairs_from file (2 + 6 * m) 0 m)) _ ls room.1 in
     let formed = as_refusal_ok refusal.Line (lines_from file 0 m) ls pairs.2 in
-    let placed = as_refusal_ok refusal.Pair (pairs_from file (2 + 6 * m) 0 m) tt pairs.1 in
     let same : n ≡ m = sym read.2 ∙ length_lines file 0 m ls formed in
     let P : ℕ → Type 0 = λ k. InOrder file places k in
     subst P (sym same) (record {
-      head = count_ok file m head.1;
       room = ltb-false places m room.0;
-      placed = placed;
-      formed = ap is_ok formed;
+      formed = ap checked formed;
       writes = λ table. ap (λ r. written r table) formed ∙ sym (ap (λ r. written r table) read.1);
     })
 
@@ -96,16 +84,9 @@ no_remark : (file : List ℕ) (place : ℕ) (r : Result (List Line) RequestRefus
 no_remark file place (Ok ls) e h = absurd (no_fault (length ls) e h)
 no_remark file place (Err fault) e h = refl
 
-pub remark_fault : (file : List ℕ) (place : ℕ) (e : RequestRefusal) → Err e ≡ counted (reading file 1024) → None ≡ remark_at file place
-remark_fault file place e h = no_remark file place (meaning file) e (h ∙ ap counted (reading_all file))
-
-remark_by : (file : List ℕ) (place n : ℕ) (r : Result (List Line) RequestRefusal) → Ok n ≡ counted r → cond (ltb place n) (Some (remark_of file (pair_at file place))) None ≡ remark_if file place r
-remark_by file place n (Ok ls) h = let e : n ≡ length ls = cc in rw e
-remark_by file place n (Err fault) h = absurd (no_fault n fault (sym h))
-
--- the remark of a file in order
-pub remark_is : (file : List ℕ) (place n : ℕ) → Ok n ≡ counted (reading file 1024) → cond (ltb place n) (Some (remark_of file (pair_at file place))) None ≡ remark_at file place
-remark_is file place n h = remark_by file place n (meaning file) (h ∙ ap counted (reading_all file))
+pub remark_fault : {A : Type 0} (file : List ℕ) (place : ℕ) (r : Result A RequestRefusal) (lines : A → ℕ) → result_map_both lines (λ e. e) r ≡ counted (reading file 1024) → result_ok r ≡ None → None ≡ remark_at file place
+remark_fault file place (Ok a) lines h none = cc
+remark_fault file place (Err e) lines h none = no_remark file place (meaning file) e (h ∙ ap counted (reading_all file))
 
 -- what is known of a file that means some lines
 pub record Meant (file : List ℕ) (n : ℕ) (ls : List Line) : Type 0 where

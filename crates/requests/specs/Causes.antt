@@ -1,5 +1,5 @@
--- The numbers and places by which the refusals of a request file are known.
-use Rattle.std.specs.Prelude.{ℕ}
+-- The numbers, places and words by which the refusals of a request file are known.
+use Rattle.std.specs.Prelude.{ℕ, List, codes}
 use Rattle.requests.specs.declared.fault.RequestRefusal.{RequestRefusal}
 use Rattle.requests.specs.declared.fault.RequestRefusal.TheVariants.{FileLength, LineCount, Table, Pair, Line}
 
@@ -18,3 +18,11 @@ place_of LineCount = 0
 place_of Table = 0
 place_of (Pair fault) = fault.place
 place_of (Line fault) = fault.place
+
+-- why a file is declined
+abbrev pub words_of : RequestRefusal → List ℕ
+words_of FileLength = codes "the file has under 2 or over 65,535 bytes"
+words_of LineCount = codes "the line count is 0 or above 1,024, or the pairs pass the file's end"
+words_of Table = codes "the table has fewer places than the file has lines"
+words_of (Pair fault) = codes "the pair starts too early, has a length outside 30 to 110, or passes the file's end"
+words_of (Line fault) = codes "the line breaks the form"

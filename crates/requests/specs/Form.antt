@@ -1,10 +1,8 @@
 -- The form of a line of a request file, as `20010000001 010000 1000 02 S M`, with or without a remark.
-use Rattle.std.specs.Prelude.{ℕ, zero, suc, ◌+◌, ◌-◌, ◌*◌, Bool, true, cond, ◌&&◌, List, length, Ok, Err, Result, ◌==◌, nat_le, nat_lt, slice_index}
-use Rattle.accounts.specs.declared.record.Size.{Size}
-use Rattle.accounts.specs.declared.record.Size.TheVariants.{Small, Large}
-use Rattle.accounts.specs.declared.record.Kind.{Kind}
-use Rattle.accounts.specs.declared.record.Kind.TheVariants.{Member, Anchor}
+use Rattle.std.specs.Prelude.{ℕ, zero, suc, ◌+◌, ◌-◌, ◌*◌, Bool, true, cond, ◌&&◌, List, length, Option, Ok, Err, Result, ◌==◌, nat_le, nat_lt, slice_index}
+use Rattle.std.specs.Option.{ok_or}
 use Rattle.accounts.specs.declared.record.Line.{Line}
+use Rattle.accounts.specs.Marks.{size_of, kind_of}
 use Rattle.requests.specs.declared.fault.FieldFault.{FieldFault}
 use Rattle.requests.specs.declared.fault.FieldFault.TheVariants.{NotDigit, NotSpace, NotLetter}
 
@@ -43,13 +41,9 @@ with_digit n b = cond (is_digit b) (Ok (and_digit n b)) (Err NotDigit)
 abbrev pub space_at : List ℕ → ℕ → Result (Unit {0}) FieldFault
 space_at bs at = cond (slice_index bs at == 32) (Ok tt) (Err NotSpace)
 
--- `S` is the byte 83, `L` is 76
-abbrev pub size_of : ℕ → Result Size FieldFault
-size_of b = cond (b == 83) (Ok Small) (cond (b == 76) (Ok Large) (Err NotLetter))
-
--- `M` is the byte 77, `X` is 88
-abbrev pub kind_of : ℕ → Result Kind FieldFault
-kind_of b = cond (b == 77) (Ok Member) (cond (b == 88) (Ok Anchor) (Err NotLetter))
+-- a mark, or the fault where there is none
+abbrev pub letter : {A : Type 0} → Option A → Result A FieldFault
+letter mark = ok_or mark NotLetter
 
 -- a line longer than its fields has a space before the remark
 abbrev pub remark_space : List ℕ → Result (Unit {0}) FieldFault
@@ -67,8 +61,8 @@ line_of bs =
     then (space_at bs 23) (λ _.
     then (number_at bs 24 2) (λ class.
     then (space_at bs 26) (λ _.
-    then (size_of (slice_index bs 27)) (λ size.
+    then (letter (size_of (slice_index bs 27))) (λ size.
     then (space_at bs 28) (λ _.
-    then (kind_of (slice_index bs 29)) (λ kind.
+    then (letter (kind_of (slice_index bs 29))) (λ kind.
     then (remark_space bs) (λ _.
     Ok (record { account = account; percentage = percentage; savings = savings; class = class; size = size; kind = kind })))))))))))))

@@ -1,7 +1,14 @@
 // What is wrong with a request file. A field's fault lies in its line's, and a line's in the file's.
-ghost use Rattle.std.specs.Prelude.{◌≡◌};
-ghost use Rattle.requests.specs.Causes.{number_of, place_of};
+ghost use Rattle.std.specs.Prelude.{◌≡◌, Some};
+ghost use Rattle.std.proofs.Common.{rules};
+ghost use Rattle.requests.specs.Causes.{number_of, place_of, words_of};
+ghost use Rattle.requests.specs.declared.fault.FieldFault.TheVariants.{NotLetter};
 ghost use Rattle.requests.specs.declared.fault.RequestRefusal.TheVariants.{Pair, Line};
+
+use accounts::marks::UnknownMark;
+use refusals::Numbered;
+use std::error::Error;
+use std::fmt;
 
 // What a field of a line should have been.
 #[derive(Clone, Copy, PartialEq, Eq, Debug)]
@@ -37,11 +44,35 @@ pub enum RequestRefusal {
     Line(LineFault),
 }
 
-impl RequestRefusal {
-    // The number under which the refusal is known.
-    pub fn number(&self) -> u8
-        ensures { result ≡ number_of self.now }
-    {
+impl fmt::Display for RequestRefusal {
+    ghost output = { λ refusal. Some (words_of refusal) };
+
+    fn fmt<W: fmt::Write>(&self, f: &mut fmt::Formatter<W>) -> fmt::Result {
+        f.write_str(match self {
+            RequestRefusal::FileLength => "the file has under 2 or over 65,535 bytes",
+            RequestRefusal::LineCount =>
+                "the line count is 0 or above 1,024, or the pairs pass the file's end",
+            RequestRefusal::Table => "the table has fewer places than the file has lines",
+            RequestRefusal::Pair(_) =>
+                "the pair starts too early, has a length outside 30 to 110, or passes the file's end",
+            RequestRefusal::Line(_) => "the line breaks the form",
+        })
+    }
+}
+
+impl Error for RequestRefusal {}
+
+// The place is that of the first pair or line at fault.
+impl Numbered for RequestRefusal {
+    ghost number = { number_of };
+
+    ghost place = { place_of };
+
+    ghost reason = { words_of };
+
+    ghost spoken = { λ _. Prim.search rules };
+
+    fn number(&self) -> u8 {
         match self {
             RequestRefusal::FileLength => 1,
             RequestRefusal::LineCount => 2,
@@ -51,15 +82,20 @@ impl RequestRefusal {
         }
     }
 
-    // The place of the first pair or line at fault, and 0 where none is told.
-    pub fn place(&self) -> usize
-        ensures { result ≡ place_of self.now }
-    {
+    fn place(&self) -> usize {
         match self {
             RequestRefusal::FileLength | RequestRefusal::LineCount | RequestRefusal::Table => 0,
             RequestRefusal::Pair(fault) => fault.place,
             RequestRefusal::Line(fault) => fault.place,
         }
+    }
+}
+
+impl From<UnknownMark> for FieldFault {
+    ghost from_gives = { λ _ fault. fault ≡ NotLetter };
+
+    fn from(_mark: UnknownMark) -> FieldFault {
+        FieldFault::NotLetter
     }
 }
 

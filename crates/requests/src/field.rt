@@ -1,6 +1,6 @@
 // The fields of a line: numbers of a fixed width, single spaces between them, two letters.
 ghost use Rattle.std.specs.Prelude.{◌≡◌, ◌+◌, ◌^◌, ◌<◌, ◌≤◌, length, IfOk};
-ghost use Rattle.requests.specs.Form.{with_digit, number_at, space_at, size_of, kind_of, line_of};
+ghost use Rattle.requests.specs.Form.{with_digit, number_at, space_at, line_of};
 
 use crate::fault::FieldFault;
 use accounts::record::{Kind, Line, Size};
@@ -10,10 +10,10 @@ fn with_digit(gathered: u64, byte: u8) -> Result<u64, FieldFault>
     requires { gathered < 10 ^ 18 }
     ensures { result ≡ with_digit gathered byte }
 {
-    if byte < b'0' || byte > b'9' {
-        return Err(FieldFault::NotDigit);
+    match byte {
+        b'0'..=b'9' => Ok(gathered * 10 + u64::from(byte - b'0')),
+        _ => Err(FieldFault::NotDigit),
     }
-    Ok(gathered * 10 + (byte - b'0') as u64)
 }
 
 // The number that the `width` bytes from `at` on write.
@@ -23,9 +23,9 @@ fn number(line: &[u8], at: usize, width: usize) -> Result<u64, FieldFault>
     ensures value { result ≡ number_at line.now at width }
     ensures bound { IfOk result (λ n. n < 10 ^ width) }
 {
-    let mut gathered = 0u64;
-    for i in 0..width {
-        gathered = with_digit(gathered, line[at + i])?;
+    let mut gathered = 0;
+    for byte in &line[at..at + width] {
+        gathered = with_digit(gathered, *byte)?;
     }
     Ok(gathered)
 }
@@ -38,26 +38,6 @@ fn space(line: &[u8], at: usize) -> Result<(), FieldFault>
         Ok(())
     } else {
         Err(FieldFault::NotSpace)
-    }
-}
-
-fn size(byte: u8) -> Result<Size, FieldFault>
-    ensures { result ≡ size_of byte }
-{
-    match byte as char {
-        'S' => Ok(Size::Small),
-        'L' => Ok(Size::Large),
-        _ => Err(FieldFault::NotLetter),
-    }
-}
-
-fn kind(byte: u8) -> Result<Kind, FieldFault>
-    ensures { result ≡ kind_of byte }
-{
-    match byte as char {
-        'M' => Ok(Kind::Member),
-        'X' => Ok(Kind::Anchor),
-        _ => Err(FieldFault::NotLetter),
     }
 }
 
@@ -74,9 +54,9 @@ pub fn fields(line: &[u8]) -> Result<Line, FieldFault>
     space(line, 23)?;
     let class = number(line, 24, 2)? as u8;
     space(line, 26)?;
-    let size = size(line[27])?;
+    let size = Size::try_from(line[27])?;
     space(line, 28)?;
-    let kind = kind(line[29])?;
+    let kind = Kind::try_from(line[29])?;
     if line.len() > 30 {
         space(line, 30)?;
     }

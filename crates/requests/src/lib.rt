@@ -4,6 +4,7 @@
 
 pub mod fault;
 mod field;
+pub mod limits;
 mod lines;
 mod pairs;
 pub mod reader;

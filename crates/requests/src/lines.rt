@@ -1,47 +1,50 @@
 // The lines that the pairs of a file name.
-ghost use Rattle.std.specs.Prelude.{◌≡◌, ◌+◌, ◌*◌, ◌<◌, ◌≤◌, length, Ok};
-ghost use Rattle.requests.specs.Meaning.{pair_at, pairs_from, line_at, lines_from, checked, reading, counted, written};
+ghost use Rattle.std.specs.Prelude.{◌≡◌, ℕ, ◌+◌, ◌*◌, ◌<◌, ◌≤◌, length, Ok};
+ghost use Rattle.requests.specs.Meaning.{pair_at, line_at, lines_from, checked, written};
 ghost use Rattle.requests.specs.Parts.{Placed};
 
 use crate::fault::LineFault;
 use crate::field::fields;
-use crate::pairs::{Pair, read_pair};
+use crate::pairs::read_pair;
 use accounts::record::Line;
 
-fn read_line(file: &[u8], place: usize) -> Result<Line, LineFault>
-    requires within { 8 + 6 * place ≤ length file.now }
-    requires placed { Placed (length file.now) (pair_at file.now place) }
-    ensures { result ≡ line_at file.now place }
-{
-    let Pair { offset, length } = read_pair(file, place);
-    let line = &file[offset..offset + length];
-    match fields(line) {
-        Ok(line) => Ok(line),
-        Err(field) => Err(LineFault { place, field }),
-    }
+// A file whose pairs all fit.
+#[derive(Clone, Copy)]
+pub struct PairedFile<'a> {
+    pub file: &'a [u8],
+    pub lines: usize,
+    ghost within: { 2 + 6 * lines ≤ length file.now },
+    ghost placed: { (place : ℕ) → place < lines → Placed (length file.now) (pair_at file.now place) },
 }
 
-// Judges the lines in their order, once all pairs fit.
-pub fn check_lines(file: &[u8], lines: usize) -> Result<(), LineFault>
-    requires within { 2 + 6 * lines ≤ length file.now }
-    requires placed { pairs_from file.now (2 + 6 * lines) 0 lines ≡ Ok tt }
-    ensures { result ≡ checked (lines_from file.now 0 lines) }
-{
-    for place in 0..lines {
-        read_line(file, place)?;
+impl<'a> PairedFile<'a> {
+    fn line(&self, place: usize) -> Result<Line, LineFault>
+        requires { place < self.now.lines }
+        ensures { result ≡ line_at self.now.file.now place }
+    {
+        let pair = read_pair(self.file, place);
+        let line = &self.file[pair.start()..pair.end()];
+        fields(line).map_err(|field| LineFault { place, field })
     }
-    Ok(())
-}
 
-// Writes the lines of a file that is in order to the first places of the table.
-pub fn write_lines(file: &[u8], lines: usize, table: &mut [Line])
-    requires { Ok lines ≡ counted (reading file.now (length table.old)) }
-    ensures { table.new ≡ written (reading file.now (length table.old)) table.old }
-{
-    for place in 0..lines {
-        let Ok(line) = read_line(file, place) else {
-            unreachable()
-        };
-        table[place] = line;
+    // Judges the lines in their order.
+    pub fn check(&self) -> Result<(), LineFault>
+        ensures { result ≡ checked (lines_from self.now.file.now 0 self.now.lines) }
+    {
+        for place in 0..self.lines {
+            self.line(place)?;
+        }
+        Ok(())
+    }
+
+    // Writes the lines, once they are in form, to the first places of the table that the caller lends.
+    pub fn write(&self, table: &mut [Line])
+        requires room { self.now.lines ≤ length table.old }
+        requires formed { checked (lines_from self.now.file.now 0 self.now.lines) ≡ Ok tt }
+        ensures { table.new ≡ written (lines_from self.now.file.now 0 self.now.lines) table.old }
+    {
+        for (place, line) in table[..self.lines].iter_mut().enumerate() {
+            *line = self.line(place).unwrap();
+        }
     }
 }

@@ -1,16 +1,16 @@
 use Rattle.std.proofs.Common.{arith}
 use Rattle.std.proofs.lemmas.Bool.Decides.{nat_tests}
-use Rattle.requests.specs.Meaning.{count}
+use Rattle.requests.specs.Meaning.{little, count}
 use Rattle.requests.proofs.pairs.line_count.Goals as goal
 
-pub returns-then-file-lt2 : goal.returns-then-file-lt2
+pub returns-then-not-contains : goal.returns-then-not-contains
 unfolding count
-returns-then-file-lt2 c = grind (arith, nat_tests)
+returns-then-not-contains c = grind (arith, nat_tests)
 
-pub returns-then-lines-eq0 : goal.returns-then-lines-eq0
-unfolding count
-returns-then-lines-eq0 c = grind (arith, nat_tests)
+pub returns-then-not-contains-2 : goal.returns-then-not-contains-2
+unfolding count little
+returns-then-not-contains-2 c = grind (arith, nat_tests)
 
 pub returns : goal.returns
-unfolding count
+unfolding count little
 returns c = grind (arith, nat_tests)

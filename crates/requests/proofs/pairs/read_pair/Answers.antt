@@ -1,7 +1,7 @@
-use Rattle.std.proofs.Common.{arith}
-use Rattle.requests.specs.Meaning.{pair_at}
+use Rattle.std.proofs.Common.{add-zero, arith}
+use Rattle.requests.specs.Meaning.{little, pair_at}
 use Rattle.requests.proofs.pairs.read_pair.Goals as goal
 
 pub returns : goal.returns
-unfolding pair_at
-returns c = record { value = (cc); bound = omega arith }
+unfolding pair_at little
+returns c = grind (arith, add-zero)
