@@ -4,7 +4,6 @@ use super::patch::{Patch, put};
 use super::told::{ACCEPTED, Told, amount, declined, declined_at, told};
 use accounts::record::Line;
 use crediting::volumetric::Volumetric;
-use requests::fault::RequestRefusal;
 use requests::reader::read;
 
 // Two lines: at bytes 14 and 44, 30 bytes each.
@@ -13,13 +12,6 @@ const PAIRS: [u8; 14] = [2, 0, 14, 0, 0, 0, 30, 0, 44, 0, 0, 0, 30, 0];
 const FIRST: &[u8] = b"20010000001 010000 1000 02 S M";
 
 const SECOND: &[u8] = b"99999999999 040000 9800 16 L X";
-
-fn told_of(answer: Result<usize, RequestRefusal>) -> Told {
-    match answer {
-        Ok(lines) => amount(lines as u64),
-        Err(why) => declined_at(why.number(), why.place()),
-    }
-}
 
 fn pairs() -> [Patch; 10] {
     [
@@ -62,7 +54,7 @@ fn patched(rt: &HostRuntime, title: &str, patches: &[Patch]) -> anyhow::Result<(
     let group = Group::new(rt, title);
     for patch in patches {
         let file = patch.of(two_lines(rt)?);
-        let came = told_of(read(&file, &mut [Line::default(); 3]));
+        let came = told(read(&file, &mut [Line::default(); 3]));
         group.show(patch.name, patch.expected, came)?;
     }
     Ok(())
@@ -71,9 +63,9 @@ fn patched(rt: &HostRuntime, title: &str, patches: &[Patch]) -> anyhow::Result<(
 fn tables(rt: &HostRuntime) -> anyhow::Result<()> {
     let group = Group::new(rt, "table");
     let file = two_lines(rt)?;
-    let came = told_of(read(&file, &mut [Line::default(); 1]));
+    let came = told(read(&file, &mut [Line::default(); 1]));
     group.show("1 place", declined(3), came)?;
-    let came = told_of(read(&file, &mut [Line::default(); 2]));
+    let came = told(read(&file, &mut [Line::default(); 2]));
     group.show("2 places", amount(2), came)
 }
 
@@ -117,7 +109,7 @@ fn blanks(rt: &HostRuntime) -> anyhow::Result<()> {
             *count = case.lines.to_le_bytes();
         }
         let mut table = vec![in heap; Line::default(); 1_025]?;
-        group.show(case.name, case.expected, told_of(read(&file, &mut table)))?;
+        group.show(case.name, case.expected, told(read(&file, &mut table)))?;
     }
     Ok(())
 }
@@ -127,7 +119,7 @@ fn long_line(rt: &HostRuntime, length: u8) -> anyhow::Result<Told> {
     let mut file = [1, 0, 8, 0, 0, 0, length, 0].to_vec(rt.alloc())?;
     file.extend_from_slice(FIRST)?;
     file.resize(8 + usize::from(length.max(30)), b' ')?;
-    Ok(told_of(read(&file, &mut [Line::default(); 1])))
+    Ok(told(read(&file, &mut [Line::default(); 1])))
 }
 
 fn lengths(rt: &HostRuntime) -> anyhow::Result<()> {
