@@ -63,10 +63,10 @@ fn patched(rt: &HostRuntime, title: &str, patches: &[Patch]) -> anyhow::Result<(
 fn tables(rt: &HostRuntime) -> anyhow::Result<()> {
     let group = Group::new(rt, "table");
     let file = two_lines(rt)?;
-    let came = told(read(&file, &mut [Line::default(); 1]));
-    group.show("1 place", declined(3), came)?;
-    let came = told(read(&file, &mut [Line::default(); 2]));
-    group.show("2 places", amount(2), came)
+    let one = told(read(&file, &mut [Line::default(); 1]));
+    group.show("1 place", declined(3), one)?;
+    let two = told(read(&file, &mut [Line::default(); 2]));
+    group.show("2 places", amount(2), two)
 }
 
 // A file of so many bytes that tells so many lines; the other bytes are 0, as are its pairs.

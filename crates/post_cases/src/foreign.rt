@@ -76,10 +76,7 @@ fn on_another(group: Group, first: Record, other: Record, steps: &[Step]) -> any
     let mut ledger = Ledger::new();
     let mut table = [Record::default(); 1];
     let mut own = TableBook::new(&mut table);
-    let mut stage = Stage {
-        ledger: &mut ledger,
-        book: &mut own,
-    };
+    let mut stage = Stage::new(&mut ledger, &mut own);
     stage.open(group, EXEMPT)?;
     let banked = [
         expects("reading of 5 with no account", Act::Read(5), amount(1)),
@@ -90,11 +87,7 @@ fn on_another(group: Group, first: Record, other: Record, steps: &[Step]) -> any
     let mut book = TableBook::new(&mut table);
     let _ = book.add(first);
     let _ = book.add(other);
-    let mut stage = Stage {
-        ledger: &mut ledger,
-        book: &mut book,
-    };
-    stage.play(group, steps)
+    Stage::new(&mut ledger, &mut book).play(group, steps)
 }
 
 fn reading_of_one(expected: Told) -> [Step; 1] {
@@ -114,11 +107,7 @@ fn bill_of_another(ledger: &mut Ledger, cents: u64, heap: Global) -> anyhow::Res
     let mut table = [Record::default(); 1];
     let mut book = TableBook::new(&mut table);
     let _ = book.add(satellite(1, 1, MOST_UNITS));
-    let mut stage = Stage {
-        ledger,
-        book: &mut book,
-    };
-    stage.perform(bill(1, cents), heap)
+    Stage::new(ledger, &mut book).perform(bill(1, cents), heap)
 }
 
 // Ten thousand bills of the most cents are 10^13 cents, which the period's applied credits may not pass.
@@ -128,11 +117,7 @@ fn most_applied(rt: &HostRuntime) -> anyhow::Result<()> {
     let mut ledger = Ledger::new();
     let mut table = [Record::default(); 1];
     let mut own = TableBook::new(&mut table);
-    let mut stage = Stage {
-        ledger: &mut ledger,
-        book: &mut own,
-    };
-    let read = stage.perform(Act::Read(0), heap)?;
+    let read = Stage::new(&mut ledger, &mut own).perform(Act::Read(0), heap)?;
     group.show("reading", amount(1), read)?;
     for _ in 0..9_999 {
         let _ = bill_of_another(&mut ledger, 1_000_000_000, heap)?;
@@ -147,10 +132,10 @@ fn most_applied(rt: &HostRuntime) -> anyhow::Result<()> {
         posted(1_000_000_000, 1_000_000_000, 100_000_000, 900_000_000),
         bill_of_another(&mut ledger, 1_000_000_000, heap)?,
     )?;
-    let came = bill_of_another(&mut ledger, 1, heap)?;
-    group.show("a cent more", declined(27), came)?;
-    let came = bill_of_another(&mut ledger, 0, heap)?;
-    group.show("no cent more", posted(0, 0, 0, 0), came)
+    let cent = bill_of_another(&mut ledger, 1, heap)?;
+    group.show("a cent more", declined(27), cent)?;
+    let none = bill_of_another(&mut ledger, 0, heap)?;
+    group.show("no cent more", posted(0, 0, 0, 0), none)
 }
 
 pub fn cases(rt: &HostRuntime) -> anyhow::Result<()> {

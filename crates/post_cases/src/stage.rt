@@ -36,8 +36,8 @@ type Plain = Call<ValueStack>;
 
 #[derive(Drop)]
 pub struct Stage<'l, 'b, B> {
-    pub ledger: &'l mut Ledger,
-    pub book: &'b mut B,
+    ledger: &'l mut Ledger,
+    book: &'b mut B,
 }
 
 fn volumetric(rate: u32) -> Result<Volumetric, RatesRefusal> {
@@ -46,7 +46,11 @@ fn volumetric(rate: u32) -> Result<Volumetric, RatesRefusal> {
     Ok(method)
 }
 
-impl<B: AccountBook> Stage<'_, '_, B> {
+impl<'l, 'b, B: AccountBook> Stage<'l, 'b, B> {
+    pub fn new(ledger: &'l mut Ledger, book: &'b mut B) -> Self {
+        Stage { ledger, book }
+    }
+
     fn call<M: CreditMethod + Drop>(&mut self, call: Call<M>) -> Told {
         told(self.ledger.perform(self.book, &call))
     }
@@ -113,10 +117,7 @@ fn on_book<B: AccountBook + Drop>(
     steps: &[Step],
 ) -> anyhow::Result<()> {
     let mut ledger = Ledger::new();
-    let mut stage = Stage {
-        ledger: &mut ledger,
-        book,
-    };
+    let mut stage = Stage::new(&mut ledger, book);
     stage.open(group, project)?;
     stage.play(group, steps)
 }

@@ -98,12 +98,24 @@ pub fn three(a: Line, b: Line, c: Line) -> Act {
     Act::Enrol([Some(a), Some(b), Some(c)])
 }
 
+pub fn monthly(account: u64, cents: u64) -> Billing {
+    Billing::Monthly { account, cents }
+}
+
+pub fn last(account: u64, cents: u64) -> Billing {
+    Billing::Final { account, cents }
+}
+
 pub fn bill(account: u64, cents: u64) -> Act {
-    Act::Post(Method::ValueStack, Billing::Monthly { account, cents })
+    Act::Post(Method::ValueStack, monthly(account, cents))
 }
 
 pub fn last_bill(account: u64, cents: u64) -> Act {
-    Act::Post(Method::ValueStack, Billing::Final { account, cents })
+    Act::Post(Method::ValueStack, last(account, cents))
+}
+
+pub fn rated(rate: u32, billing: Billing) -> Act {
+    Act::Post(Method::Volumetric { rate }, billing)
 }
 
 pub fn disburse(account: u64, units: u64) -> Act {
