@@ -4,7 +4,6 @@ use super::patch::{Patch, put};
 use super::told::{ACCEPTED, Told, amount, declined, declined_at, told};
 use accounts::record::Line;
 use crediting::volumetric::Volumetric;
-use requests::fault::RequestRefusal;
 use requests::reader::read;
 
 // Two lines: at bytes 14 and 44, 30 bytes each.
@@ -13,13 +12,6 @@ const PAIRS: [u8; 14] = [2, 0, 14, 0, 0, 0, 30, 0, 44, 0, 0, 0, 30, 0];
 const FIRST: &[u8] = b"20010000001 010000 1000 02 S M";
 
 const SECOND: &[u8] = b"99999999999 040000 9800 16 L X";
-
-fn told_of(answer: Result<usize, RequestRefusal>) -> Told {
-    match answer {
-        Ok(lines) => amount(lines as u64),
-        Err(why) => declined_at(why.number(), why.place()),
-    }
-}
 
 fn pairs() -> [Patch; 10] {
     [
@@ -59,22 +51,22 @@ fn two_lines(rt: &HostRuntime) -> anyhow::Result<Vec<u8>> {
 }
 
 fn patched(rt: &HostRuntime, title: &str, patches: &[Patch]) -> anyhow::Result<()> {
-    let group = Group { rt, title };
+    let group = Group::new(rt, title);
     for patch in patches {
         let file = patch.of(two_lines(rt)?);
-        let came = told_of(read(&file, &mut [Line::default(); 3]));
+        let came = told(read(&file, &mut [Line::default(); 3]));
         group.show(patch.name, patch.expected, came)?;
     }
     Ok(())
 }
 
 fn tables(rt: &HostRuntime) -> anyhow::Result<()> {
-    let group = Group { rt, title: "table" };
+    let group = Group::new(rt, "table");
     let file = two_lines(rt)?;
-    let came = told_of(read(&file, &mut [Line::default(); 1]));
-    group.show("1 place", declined(3), came)?;
-    let came = told_of(read(&file, &mut [Line::default(); 2]));
-    group.show("2 places", amount(2), came)
+    let one = told(read(&file, &mut [Line::default(); 1]));
+    group.show("1 place", declined(3), one)?;
+    let two = told(read(&file, &mut [Line::default(); 2]));
+    group.show("2 places", amount(2), two)
 }
 
 // A file of so many bytes that tells so many lines; the other bytes are 0, as are its pairs.
@@ -109,10 +101,7 @@ fn blank_files() -> [BlankFile; 8] {
 }
 
 fn blanks(rt: &HostRuntime) -> anyhow::Result<()> {
-    let group = Group {
-        rt,
-        title: "blank file",
-    };
+    let group = Group::new(rt, "blank file");
     let heap = rt.alloc();
     for case in &blank_files() {
         let mut file = vec![in heap; 0u8; case.bytes]?;
@@ -120,7 +109,7 @@ fn blanks(rt: &HostRuntime) -> anyhow::Result<()> {
             *count = case.lines.to_le_bytes();
         }
         let mut table = vec![in heap; Line::default(); 1_025]?;
-        group.show(case.name, case.expected, told_of(read(&file, &mut table)))?;
+        group.show(case.name, case.expected, told(read(&file, &mut table)))?;
     }
     Ok(())
 }
@@ -129,17 +118,12 @@ fn blanks(rt: &HostRuntime) -> anyhow::Result<()> {
 fn long_line(rt: &HostRuntime, length: u8) -> anyhow::Result<Told> {
     let mut file = [1, 0, 8, 0, 0, 0, length, 0].to_vec(rt.alloc())?;
     file.extend_from_slice(FIRST)?;
-    for _ in 30..length {
-        file.push(b' ')?;
-    }
-    Ok(told_of(read(&file, &mut [Line::default(); 1])))
+    file.resize(8 + usize::from(length.max(30)), b' ')?;
+    Ok(told(read(&file, &mut [Line::default(); 1])))
 }
 
 fn lengths(rt: &HostRuntime) -> anyhow::Result<()> {
-    let group = Group {
-        rt,
-        title: "length of a line",
-    };
+    let group = Group::new(rt, "length of a line");
     group.show("29 bytes", declined(4), long_line(rt, 29)?)?;
     group.show("30 bytes", amount(1), long_line(rt, 30)?)?;
     group.show("110 bytes", amount(1), long_line(rt, 110)?)?;
@@ -154,27 +138,17 @@ fn with_last(rate: u32) -> [u32; 16] {
 }
 
 fn all_rates(rt: &HostRuntime) -> anyhow::Result<()> {
-    let group = Group { rt, title: "rates" };
-    let mut method = Volumetric::new();
-    group.show("15 rates", declined(8), told(method.set_rates(&[1; 15])))?;
-    group.show("16 rates", ACCEPTED, told(method.set_rates(&[1; 16])))?;
-    group.show("17 rates", declined(8), told(method.set_rates(&[1; 17])))?;
-    group.show(
-        "rate 0",
-        declined_at(8, 15),
-        told(method.set_rates(&with_last(0))),
-    )?;
-    group.show("rate 1", ACCEPTED, told(method.set_rates(&with_last(1))))?;
-    group.show(
-        "rate 1000000",
-        ACCEPTED,
-        told(method.set_rates(&with_last(1_000_000))),
-    )?;
-    group.show(
-        "rate 1000001",
-        declined_at(8, 15),
-        told(method.set_rates(&with_last(1_000_001))),
-    )
+    let group = Group::new(rt, "rates");
+    let set = |name, rates, expected| -> anyhow::Result<()> {
+        group.show(name, expected, told(Volumetric::new().set_rates(rates)))
+    };
+    set("15 rates", &[1; 15], declined(8))?;
+    set("16 rates", &[1; 16], ACCEPTED)?;
+    set("17 rates", &[1; 17], declined(8))?;
+    set("rate 0", &with_last(0), declined_at(8, 15))?;
+    set("rate 1", &with_last(1), ACCEPTED)?;
+    set("rate 1000000", &with_last(1_000_000), ACCEPTED)?;
+    set("rate 1000001", &with_last(1_000_001), declined_at(8, 15))
 }
 
 pub fn cases(rt: &HostRuntime) -> anyhow::Result<()> {

@@ -5,7 +5,7 @@ use super::steps::{Act, Step, bill, disburse, expects};
 use super::told::{ACCEPTED, Told, amount, declined, posted, settled, told};
 use accounts::book::AccountBook;
 use accounts::project::Project;
-use accounts::record::{Kind, Record, Size, State};
+use accounts::record::Record;
 use ledger::ledger::Ledger;
 use std::alloc::Global;
 use table_book::TableBook;
@@ -18,11 +18,8 @@ fn satellite(account: u64, percentage: u32, held: u64) -> Record {
         percentage,
         savings: 1_000,
         class: 1,
-        size: Size::Small,
-        kind: Kind::Member,
-        state: State::Open,
         held,
-        last: 0,
+        ..Record::default()
     }
 }
 
@@ -55,14 +52,8 @@ fn openings() -> [Opening; 6] {
 }
 
 fn open_all(rt: &HostRuntime) -> anyhow::Result<()> {
-    let on_empty = Group {
-        rt,
-        title: "opening on an empty book",
-    };
-    let on_filled = Group {
-        rt,
-        title: "opening on a book with a record",
-    };
+    let on_empty = Group::new(rt, "opening on an empty book");
+    let on_filled = Group::new(rt, "opening on a book with a record");
     let mut table = [Record::default(); 1];
     let empty = TableBook::new(&mut table);
     let mut table = [Record::default(); 1];
@@ -85,26 +76,18 @@ fn on_another(group: Group, first: Record, other: Record, steps: &[Step]) -> any
     let mut ledger = Ledger::new();
     let mut table = [Record::default(); 1];
     let mut own = TableBook::new(&mut table);
-    let opened = told(ledger.open(EXEMPT, &own));
-    group.show("the ledger opens", ACCEPTED, opened)?;
+    let mut stage = Stage::new(&mut ledger, &mut own);
+    stage.open(group, EXEMPT)?;
     let banked = [
         expects("reading of 5 with no account", Act::Read(5), amount(1)),
         expects("close", Act::Close, settled(0, 0, 0, 0)),
     ];
-    let mut stage = Stage {
-        ledger: &mut ledger,
-        book: &mut own,
-    };
     stage.play(group, &banked)?;
     let mut table = [Record::default(); 2];
     let mut book = TableBook::new(&mut table);
     let _ = book.add(first);
     let _ = book.add(other);
-    let mut stage = Stage {
-        ledger: &mut ledger,
-        book: &mut book,
-    };
-    stage.play(group, steps)
+    Stage::new(&mut ledger, &mut book).play(group, steps)
 }
 
 fn reading_of_one(expected: Told) -> [Step; 1] {
@@ -124,28 +107,17 @@ fn bill_of_another(ledger: &mut Ledger, cents: u64, heap: Global) -> anyhow::Res
     let mut table = [Record::default(); 1];
     let mut book = TableBook::new(&mut table);
     let _ = book.add(satellite(1, 1, MOST_UNITS));
-    let mut stage = Stage {
-        ledger,
-        book: &mut book,
-    };
-    stage.perform(bill(1, cents), heap)
+    Stage::new(ledger, &mut book).perform(bill(1, cents), heap)
 }
 
 // Ten thousand bills of the most cents are 10^13 cents, which the period's applied credits may not pass.
 fn most_applied(rt: &HostRuntime) -> anyhow::Result<()> {
-    let group = Group {
-        rt,
-        title: "applied credits",
-    };
+    let group = Group::new(rt, "applied credits");
     let heap = rt.alloc();
     let mut ledger = Ledger::new();
     let mut table = [Record::default(); 1];
     let mut own = TableBook::new(&mut table);
-    let mut stage = Stage {
-        ledger: &mut ledger,
-        book: &mut own,
-    };
-    let read = stage.perform(Act::Read(0), heap)?;
+    let read = Stage::new(&mut ledger, &mut own).perform(Act::Read(0), heap)?;
     group.show("reading", amount(1), read)?;
     for _ in 0..9_999 {
         let _ = bill_of_another(&mut ledger, 1_000_000_000, heap)?;
@@ -160,10 +132,10 @@ fn most_applied(rt: &HostRuntime) -> anyhow::Result<()> {
         posted(1_000_000_000, 1_000_000_000, 100_000_000, 900_000_000),
         bill_of_another(&mut ledger, 1_000_000_000, heap)?,
     )?;
-    let came = bill_of_another(&mut ledger, 1, heap)?;
-    group.show("a cent more", declined(27), came)?;
-    let came = bill_of_another(&mut ledger, 0, heap)?;
-    group.show("no cent more", posted(0, 0, 0, 0), came)
+    let cent = bill_of_another(&mut ledger, 1, heap)?;
+    group.show("a cent more", declined(27), cent)?;
+    let none = bill_of_another(&mut ledger, 0, heap)?;
+    group.show("no cent more", posted(0, 0, 0, 0), none)
 }
 
 pub fn cases(rt: &HostRuntime) -> anyhow::Result<()> {
@@ -171,46 +143,31 @@ pub fn cases(rt: &HostRuntime) -> anyhow::Result<()> {
     let most = satellite(1, 60_000, 0);
     let idle = satellite(2, 0, MOST_UNITS);
     on_another(
-        Group {
-            rt,
-            title: "another's whole",
-        },
+        Group::new(rt, "another's whole"),
         most,
         satellite(2, 40_000, 0),
         &reading_of_one(amount(2)),
     )?;
     on_another(
-        Group {
-            rt,
-            title: "another's 100.001 percent",
-        },
+        Group::new(rt, "another's 100.001 percent"),
         most,
         satellite(2, 40_001, 0),
         &reading_of_one(declined(27)),
     )?;
     on_another(
-        Group {
-            rt,
-            title: "most units after it",
-        },
+        Group::new(rt, "most units after it"),
         satellite(1, 100_000, MOST_UNITS - 1),
         idle,
         &reading_of_one(amount(2)),
     )?;
     on_another(
-        Group {
-            rt,
-            title: "most units ahead of it",
-        },
+        Group::new(rt, "most units ahead of it"),
         satellite(1, 100_000, MOST_UNITS),
         idle,
         &reading_of_one(declined(27)),
     )?;
     on_another(
-        Group {
-            rt,
-            title: "disbursements",
-        },
+        Group::new(rt, "disbursements"),
         satellite(1, 0, MOST_UNITS - 1),
         idle,
         &disbursements(),

@@ -5,7 +5,7 @@ use std::fmt;
 #[derive(Clone, Copy)]
 pub struct Group<'r, 't> {
     pub rt: &'r HostRuntime,
-    pub title: &'t str,
+    title: &'t str,
 }
 
 #[derive(Clone, Copy)]
@@ -20,17 +20,22 @@ impl fmt::Display for Text {
     }
 }
 
-impl Group<'_, '_> {
+impl<'r, 't> Group<'r, 't> {
+    pub fn new(rt: &'r HostRuntime, title: &'t str) -> Self {
+        Group { rt, title }
+    }
+
     // Prints what came, and whether it is what was expected.
     pub fn show(&self, name: &str, expected: Told, came: Told) -> anyhow::Result<()> {
         let Group { rt, title } = *self;
-        let same = came == expected;
-        let came = Text(came);
-        if same {
-            println!(rt; "{title}: {name}: {came} ok")?;
+        if came == expected {
+            println!(rt; "{title}: {name}: {} ok", Text(came))?;
         } else {
-            let expected = Text(expected);
-            println!(rt; "{title}: {name}: {came}, expected {expected}, differs")?;
+            println!(rt;
+                "{title}: {name}: {}, expected {}, differs",
+                Text(came),
+                Text(expected)
+            )?;
         }
         Ok(())
     }

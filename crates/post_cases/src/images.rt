@@ -2,7 +2,7 @@
 use super::group::Group;
 use super::patch::{Patch, put};
 use super::told::{ACCEPTED, Told, declined, declined_at};
-use accounts::record::{Kind, Record, Size, State};
+use accounts::record::Record;
 use image_book::checks::{ImageRefusal, check_open, check_start};
 use record_codec::codec::encode;
 
@@ -20,11 +20,9 @@ fn satellite(account: u64) -> Record {
         percentage: 10_000,
         savings: 1_000,
         class: 2,
-        size: Size::Small,
-        kind: Kind::Member,
-        state: State::Open,
         held: 681,
         last: 3,
+        ..Record::default()
     }
 }
 
@@ -60,14 +58,8 @@ fn patched(opened: Group) -> anyhow::Result<()> {
 }
 
 pub fn cases(rt: &HostRuntime) -> anyhow::Result<()> {
-    let started = Group {
-        rt,
-        title: "image started",
-    };
-    let blank = Group {
-        rt,
-        title: "blank image opened",
-    };
+    let started = Group::new(rt, "image started");
+    let blank = Group::new(rt, "blank image opened");
     let start = |name, image, expected| -> anyhow::Result<()> {
         started.show(name, expected, told(check_start(image)))?;
         blank.show(name, expected, told(check_open(image)))
@@ -82,8 +74,5 @@ pub fn cases(rt: &HostRuntime) -> anyhow::Result<()> {
         ACCEPTED,
         told(check_start(&image)),
     )?;
-    patched(Group {
-        rt,
-        title: "image opened",
-    })
+    patched(Group::new(rt, "image opened"))
 }

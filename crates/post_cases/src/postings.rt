@@ -1,24 +1,10 @@
 // Four ways in which a posting goes astray, and does not here.
 use super::group::Group;
 use super::stage::{EXEMPT, on_both};
-use super::steps::{Act, Billing, Method, Step, bill, expects, line, one, three, two};
+use super::steps::{Act, Step, bill, expects, last, line, monthly, one, rated, three, two};
 use super::told::{Fact, amount, declined, declined_at, ended, posted, settled};
 use accounts::record::{Kind, Line};
 use cases::worked_postings;
-
-fn rated_bill(rate: u32, cents: u64) -> Act {
-    Act::Post(
-        Method::Volumetric { rate },
-        Billing::Monthly { account: 1, cents },
-    )
-}
-
-fn rated_last_bill(rate: u32, cents: u64) -> Act {
-    Act::Post(
-        Method::Volumetric { rate },
-        Billing::Final { account: 1, cents },
-    )
-}
 
 // At 0.4 cents, 9 kilowatt-hours are worth 3 cents. A cent takes 3 of them, and 6 are left. Had the 2 cents left over been
 // turned back into kilowatt-hours, 5 would be left, and one of the 9 would have vanished. Used and forfeited are 9.
@@ -26,13 +12,17 @@ fn units_stay() -> [Step; 7] {
     [
         expects("all to account 1", one(line(1, 100_000)), amount(1)),
         expects("reading of 9", Act::Read(9), amount(1)),
-        expects("a bill of a cent", rated_bill(4_000, 1), posted(1, 3, 0, 1)),
+        expects(
+            "a bill of a cent",
+            rated(4_000, monthly(1, 1)),
+            posted(1, 3, 0, 1),
+        ),
         expects("left", Act::Held { account: 1 }, amount(6)),
         expects("close", Act::Close, settled(1, 1, 0, 1)),
         expects("reading of none", Act::Read(0), amount(2)),
         expects(
             "final bill",
-            rated_last_bill(4_000, 900),
+            rated(4_000, last(1, 900)),
             ended(2, 5, 0, 2, 1),
         ),
     ]
@@ -91,7 +81,7 @@ fn fee_of_the_credits() -> [Step; 6] {
         expects("reading of 1362", Act::Read(1_362), amount(1)),
         expects(
             "member",
-            rated_bill(109_460, 20_000),
+            rated(109_460, monthly(1, 20_000)),
             posted(7_454, 681, 745, 6_709),
         ),
         expects("anchor", bill(2, 20_000), posted(681, 681, 681, 0)),
@@ -145,10 +135,7 @@ fn nothing_of_a_refused_request() -> [Step; 9] {
 }
 
 pub fn cases(rt: &HostRuntime) -> anyhow::Result<()> {
-    let group = Group {
-        rt,
-        title: "worked",
-    };
+    let group = Group::new(rt, "worked");
     group.show(
         "681 at 10.946 cents",
         posted(7_454, 681, 745, 6_709),

@@ -36,8 +36,8 @@ type Plain = Call<ValueStack>;
 
 #[derive(Drop)]
 pub struct Stage<'l, 'b, B> {
-    pub ledger: &'l mut Ledger,
-    pub book: &'b mut B,
+    ledger: &'l mut Ledger,
+    book: &'b mut B,
 }
 
 fn volumetric(rate: u32) -> Result<Volumetric, RatesRefusal> {
@@ -46,7 +46,11 @@ fn volumetric(rate: u32) -> Result<Volumetric, RatesRefusal> {
     Ok(method)
 }
 
-impl<B: AccountBook> Stage<'_, '_, B> {
+impl<'l, 'b, B: AccountBook> Stage<'l, 'b, B> {
+    pub fn new(ledger: &'l mut Ledger, book: &'b mut B) -> Self {
+        Stage { ledger, book }
+    }
+
     fn call<M: CreditMethod + Drop>(&mut self, call: Call<M>) -> Told {
         told(self.ledger.perform(self.book, &call))
     }
@@ -60,7 +64,7 @@ impl<B: AccountBook> Stage<'_, '_, B> {
             let _ = self.call(Plain::Reading(units));
             let _ = self.call(Plain::Close);
         }
-        told(Ok::<u32, Refusal>(self.ledger.closed_periods()))
+        amount(u64::from(self.ledger.closed_periods()))
     }
 
     fn record(&self, account: u64) -> Result<Record, Refusal> {
@@ -90,6 +94,11 @@ impl<B: AccountBook> Stage<'_, '_, B> {
         })
     }
 
+    pub fn open(&mut self, group: Group, project: Project) -> anyhow::Result<()> {
+        let opened = told(self.ledger.open(project, self.book));
+        group.show("the ledger opens", ACCEPTED, opened)
+    }
+
     // Performs steps one after another, and prints each.
     pub fn play(&mut self, group: Group, steps: &[Step]) -> anyhow::Result<()> {
         for step in steps {
@@ -108,12 +117,8 @@ fn on_book<B: AccountBook + Drop>(
     steps: &[Step],
 ) -> anyhow::Result<()> {
     let mut ledger = Ledger::new();
-    let opened = told(ledger.open(project, book));
-    group.show("the ledger opens", ACCEPTED, opened)?;
-    let mut stage = Stage {
-        ledger: &mut ledger,
-        book,
-    };
+    let mut stage = Stage::new(&mut ledger, book);
+    stage.open(group, project)?;
     stage.play(group, steps)
 }
 
@@ -127,9 +132,9 @@ pub fn on_both(
     let mut table = [Record::default(); 4];
     let mut book = TableBook::new(&mut table);
     let group = format!(in rt.alloc(); "{title}, table")?;
-    on_book(Group { rt, title: &group }, &mut book, project, steps)?;
+    on_book(Group::new(rt, &group), &mut book, project, steps)?;
     let mut image = [0u8; 148];
     let mut book = ImageBook::start(&mut image);
     let group = format!(in rt.alloc(); "{title}, image")?;
-    on_book(Group { rt, title: &group }, &mut book, project, steps)
+    on_book(Group::new(rt, &group), &mut book, project, steps)
 }

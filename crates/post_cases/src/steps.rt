@@ -1,6 +1,6 @@
 // Steps of a case: calls of a ledger and looks at what they leave, each with what is expected.
 use super::told::Told;
-use accounts::record::{Kind, Line, Size};
+use accounts::record::{Line, Size};
 use ledger::call::Call;
 
 #[derive(Clone, Copy)]
@@ -34,6 +34,7 @@ impl Billing {
     }
 }
 
+// An act is a value, and no closure, since one list of steps is performed on either kind of book.
 #[derive(Clone, Copy)]
 pub enum Act {
     // a request of at most three lines
@@ -74,8 +75,7 @@ pub fn line(account: u64, percentage: u32) -> Line {
         percentage,
         savings: 1_000,
         class: 1,
-        size: Size::Small,
-        kind: Kind::Member,
+        ..Line::default()
     }
 }
 
@@ -98,12 +98,24 @@ pub fn three(a: Line, b: Line, c: Line) -> Act {
     Act::Enrol([Some(a), Some(b), Some(c)])
 }
 
+pub fn monthly(account: u64, cents: u64) -> Billing {
+    Billing::Monthly { account, cents }
+}
+
+pub fn last(account: u64, cents: u64) -> Billing {
+    Billing::Final { account, cents }
+}
+
 pub fn bill(account: u64, cents: u64) -> Act {
-    Act::Post(Method::ValueStack, Billing::Monthly { account, cents })
+    Act::Post(Method::ValueStack, monthly(account, cents))
 }
 
 pub fn last_bill(account: u64, cents: u64) -> Act {
-    Act::Post(Method::ValueStack, Billing::Final { account, cents })
+    Act::Post(Method::ValueStack, last(account, cents))
+}
+
+pub fn rated(rate: u32, billing: Billing) -> Act {
+    Act::Post(Method::Volumetric { rate }, billing)
 }
 
 pub fn disburse(account: u64, units: u64) -> Act {
