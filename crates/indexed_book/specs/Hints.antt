@@ -1,15 +1,7 @@
 -- A book with hints of the places of its records.
-use Rattle.std.specs.Prelude.{◌≡◌, ℕ, ◌+◌, ◌%◌, ◌^◌, ◌<◌, Bool, false, cond, List, ◌∷◌, Some, None, Option, ◌==◌}
+use Rattle.std.specs.Prelude.{◌≡◌, ℕ, ◌+◌, ◌%◌, ◌^◌, ◌<◌, Bool, false, List, ◌∷◌, Some, None, Option, ◌==◌}
 use Rattle.accounts.specs.Books.{Contents}
 use Rattle.indexed_book.specs.declared.IndexedBook.{IndexedBook}
-
--- what a free slot holds
-abbrev pub no_place : ℕ
-no_place = 18446744073709551615
-
--- what a slot tells: nothing where it is free
-abbrev pub told : ℕ → Option ℕ
-told place = cond (place == no_place) None (Some place)
 
 -- the slot that is looked at for an account after so many others: the next one each time, and the first after the last
 pub record Slot (slots account looks s : ℕ) : Type 0 where
@@ -20,7 +12,7 @@ pub record Slot (slots account looks s : ℕ) : Type 0 where
 abbrev pub book_of : {B : Type 0} → IndexedBook B → B
 book_of b = b.book.now
 
-abbrev pub hints_of : {B : Type 0} → IndexedBook B → List ℕ
+abbrev pub hints_of : {B : Type 0} → IndexedBook B → List (Option ℕ)
 hints_of b = b.hints.now
 
 -- the loan of the book, so that what is known of it here is known to the lender when the hints are gone

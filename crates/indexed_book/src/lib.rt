@@ -1,18 +1,16 @@
 // An account book over any account book, which finds an account by hints of the place where it stands.
 #![tactic(auto)]
 
-ghost use Rattle.std.specs.Prelude.{◌≡◌, ℕ, ◌<◌, ◌∷◌, length, MatchOption, ◌≢◌, slice_index};
+ghost use Rattle.std.specs.Prelude.{◌≡◌, ℕ, length, Some, None, MatchOption, slice_index_or};
+ghost use Rattle.std.specs.List.{slice_get};
 ghost use Rattle.accounts.specs.Books.{accounts, find, takes, added, Left};
-ghost use Rattle.indexed_book.specs.Hints.{no_place, told, Slot, book_of, hints_of, loan_of, contents_with, is_at, or_else};
+ghost use Rattle.indexed_book.specs.Hints.{Slot, book_of, hints_of, loan_of, contents_with, is_at, or_else};
 
 use accounts::book::AccountBook;
 use accounts::record::Record;
 
 // How many slots of the hints are looked at for one account.
 const MOST_LOOKS: u64 = 64;
-
-// What a slot without a hint holds: no book has so many records.
-const NO_PLACE: usize = usize::MAX;
 
 // The slot of the hints that is looked at for an account after so many others; none where there are no slots.
 fn slot(slots: usize, account: u64, looks: u64) -> Option<usize>
@@ -25,15 +23,15 @@ fn slot(slots: usize, account: u64, looks: u64) -> Option<usize>
 }
 
 // Notes the place of an account in the first free slot that a search for it looks at; in none, where none is free.
-fn note(hints: &mut [usize], account: u64, place: usize)
-    ensures { (i : ℕ) → (slice_index hints.old i ≢ no_place) → slice_index hints.new i ≡ slice_index hints.old i }
+fn note(hints: &mut [Option<usize>], account: u64, place: usize)
+    ensures { (i p : ℕ) → slice_get hints.old i ≡ Some (Some p) → slice_get hints.new i ≡ Some (Some p) }
 {
     for looks in 0..MOST_LOOKS {
         let Some(slot) = slot(hints.len(), account, looks) else {
             return;
         };
-        if hints[slot] == NO_PLACE {
-            hints[slot] = place;
+        if hints[slot].is_none() {
+            hints[slot] = Some(place);
             return;
         }
     }
@@ -44,18 +42,17 @@ fn note(hints: &mut [usize], account: u64, place: usize)
 #[derive(Drop)]
 pub struct IndexedBook<'a, 'h, B> {
     book: &'a mut B,
-    hints: &'h mut [usize],
+    // none in a free slot
+    hints: &'h mut [Option<usize>],
 }
 
 impl<'a, 'h, B: AccountBook> IndexedBook<'a, 'h, B> {
     // The same book with hints of the places of its records; what the slots held before is lost.
-    pub fn new(book: &'a mut B, hints: &'h mut [usize]) -> IndexedBook<'a, 'h, B>
+    pub fn new(book: &'a mut B, hints: &'h mut [Option<usize>]) -> IndexedBook<'a, 'h, B>
         ensures book { book_of result ≡ book.old }
         ensures loan { loan_of result ≡ book.entry.ghost_name }
     {
-        for hint in hints.iter_mut() {
-            *hint = NO_PLACE;
-        }
+        hints.fill(None);
         for place in 0..book.count() {
             if let Some(record) = book.get(place) {
                 note(hints, record.account, place);
@@ -66,11 +63,10 @@ impl<'a, 'h, B: AccountBook> IndexedBook<'a, 'h, B> {
 
     // The place in the slot that is looked at for an account after so many others; none where the slot is free.
     fn hint(&self, account: u64, looks: u64) -> Option<usize>
-        ensures { (s : ℕ) → Slot (length (hints_of self.now)) account looks s → result ≡ told (slice_index (hints_of self.now) s) }
+        ensures { (s : ℕ) → Slot (length (hints_of self.now)) account looks s → result ≡ slice_index_or (hints_of self.now) s None }
     {
         let slot = slot(self.hints.len(), account, looks)?;
-        let place = self.hints[slot];
-        if place == NO_PLACE { None } else { Some(place) }
+        self.hints[slot]
     }
 
     // Whether an account stands at a place.
@@ -139,7 +135,7 @@ impl<'a, 'h, B: AccountBook> AccountBook for IndexedBook<'a, 'h, B> {
 
 // Adds a record to a book through its hints, and lets the hints go: the book answers and is left as if it had been asked
 // itself.
-pub fn add_indexed<B: AccountBook>(book: &mut B, hints: &mut [usize], new: Record) -> bool
+pub fn add_indexed<B: AccountBook>(book: &mut B, hints: &mut [Option<usize>], new: Record) -> bool
     ensures answer { B.AccountBook.sound book.old → result ≡ takes (B.AccountBook.contents book.old).records (B.AccountBook.contents book.old).room new }
     ensures after { B.AccountBook.sound book.old → Left (B.AccountBook.sound book.new) (B.AccountBook.contents book.new) (B.AccountBook.contents book.old) (added result (B.AccountBook.contents book.old).records new) }
 {
