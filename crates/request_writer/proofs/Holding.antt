@@ -1,9 +1,9 @@
 -- What any file holds can be packed.
-use Rattle.std.proofs.Common.{◌≡◌, ℕ, suc, ◌+◌, ◌-◌, ◌*◌, ◌^◌, ◌<◌, ◌≤◌, true, eqb, ltb, List, [], ◌∷◌, map, length, get_or, Some, Ok, Err, Result, sym, refl, ap, ◌∙◌, subst, inl, inr, add-zero, zero-add, arith}
+use Rattle.std.proofs.Common.{◌≡◌, ℕ, suc, ◌+◌, ◌-◌, ◌*◌, ◌^◌, ◌<◌, ◌≤◌, true, List, [], ◌∷◌, map, length, get_or, Some, Ok, Err, Result, sym, refl, ap, ◌∙◌, subst, inl, inr, add-zero, zero-add, arith}
 use Rattle.std.specs.List.{flat_map}
 use Rattle.std.specs.Option.{option_map}
 use Rattle.std.proofs.lemmas.List.{length-append, length-map, length-take}
-use Rattle.std.proofs.lemmas.Bool.{le-leb, lt-ltb, le-ltb, or_from, ne_eqb, cases_lt}
+use Rattle.std.proofs.lemmas.Bool.{le-leb, lt-ltb, le-ltb, cases_lt}
 use Rattle.std.proofs.lemmas.Bool.Decides.{nat_tests}
 use Rattle.accounts.specs.declared.record.Line.{Line}
 use Rattle.requests.specs.declared.pairs.Pair.{Pair}
@@ -133,7 +133,8 @@ packs_all file es back =
     let remarks : (i : ℕ) (d : Item) → i < n → (remark_of file (pair_at file (0 + i))).0 ≡ (get_or es i d).1 = λ i d l. rw zero-add (remark_told file (get_or es i d).1 i ls back.lines (omega arith) (back.remarks i d l)) in
     let held = holding file (2 + 6 * n) 0 0 es m.placed m.formed remarks m.head.within in
     let short : length (file_of es) ≤ 65535 = omega (arith, length_file es, held.1, m.head.limit) in
-    rw (or_from (eqb n 0) (ltb 1024 n) (ne_eqb n 0 m.head.least) (le-ltb 1024 n m.head.most), held.0, le-ltb 65535 (length (file_of es)) short)
+    let items = held.0 in
+    grind (arith, nat_tests)
 
 -- so what is refused stands in no file
 pub refused_unheld : (es : List Item) (e : WriteRefusal) → Refuses es e → Unheld es e

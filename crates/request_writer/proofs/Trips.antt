@@ -3,7 +3,7 @@ use Rattle.std.proofs.Common.{◌≡◌, ℕ, zero, suc, ◌+◌, ◌-◌, ◌*�
 use Rattle.std.specs.List.{flat_map}
 use Rattle.std.specs.Option.{option_map}
 use Rattle.std.proofs.lemmas.List.{append_assoc, append-nil, length-append, length_push, length-map, drop-drop, drop_at, take_at}
-use Rattle.std.proofs.lemmas.Bool.{lt-ltb, le-ltb, or_from, or_parts, ltb-false, eqb-false, ne_eqb}
+use Rattle.std.proofs.lemmas.Bool.{lt-ltb, or_parts, ltb-false, eqb-false}
 use Rattle.std.proofs.lemmas.Bool.Decides.{nat_tests}
 use Rattle.accounts.specs.declared.record.Line.{Line}
 use Rattle.requests.specs.Meaning.{little, pair_at, fits, pairs_from, line_at, lines_from, count, meaning, remark_of, remark_at}
@@ -110,11 +110,9 @@ count_bytes es few = little_back 2 (length es) 0 [] (pairs (2 + 6 * length es) e
 count_back : (es : List Item) → (length es ≡ 0 → ⊥) → length es ≤ 1024 → size es ≤ 65535 → count (file_of es) ≡ Ok (length es)
 unfolding count
 count_back es some few short =
-    let n = length es in
-    let limit = length (file_of es) in
+    let counts = count_bytes es few in
     let long = length_file es in
-    let counts : little (file_of es) 0 2 ≡ n = count_bytes es few in
-    rw (counts, or_from (ltb limit 2) (ltb 65535 limit) (le-ltb limit 2 (omega arith)) (le-ltb 65535 limit (omega arith)), or_from (eqb n 0) (ltb 1024 n || ltb limit (2 + 6 * n)) (ne_eqb n 0 some) (or_from (ltb 1024 n) _ (le-ltb 1024 n few) (le-ltb limit (2 + 6 * n) (omega arith))))
+    grind (arith, nat_tests)
 
 all_stand : (es : List Item) → size es ≤ 65535 → Stands (file_of es) 0 (2 + 6 * length es) es
 unfolding file_of

@@ -1,11 +1,12 @@
 -- The number that digits write, digit by digit.
-use Rattle.std.proofs.Common.{◌≡◌, ℕ, zero, suc, ◌+◌, ◌^◌, ◌<◌, ◌≤◌, true, false, leb, List, get_or, inl, inr, pow-suc, arith}
+use Rattle.std.proofs.Common.{◌≡◌, ℕ, zero, suc, ◌+◌, ◌^◌, ◌<◌, ◌≤◌, true, false, List, get_or, inl, inr, pow-suc, arith}
 use native.Mathlib.Nat.{pow-le-pow_right}
-use Rattle.std.proofs.lemmas.Bool.{and_parts, and_from, and_left, and_right, leb-true, cases_order, le-leb}
+use Rattle.std.proofs.lemmas.Bool.{and_left, and_right, cases_order}
+use Rattle.std.proofs.lemmas.Bool.Decides.{nat_tests}
 use Rattle.requests.specs.Form.{all_digits, number, is_digit}
 
 pub digit_true : (b : ℕ) → 48 ≤ b → b ≤ 57 → is_digit b ≡ true
-digit_true b low high = and_from (leb 48 b) (leb b 57) (le-leb 48 b low) (le-leb b 57 high)
+digit_true b low high = grind (arith, nat_tests)
 
 pub not_digit : (bs : List ℕ) (at w i : ℕ) → i < w → is_digit (get_or bs (at + i) 0) ≡ false → all_digits bs at w ≡ false
 unfolding all_digits
@@ -22,10 +23,9 @@ pub number_lt : (bs : List ℕ) (at w : ℕ) → all_digits bs at w ≡ true →
 unfolding number all_digits
 number_lt bs at zero h = omega arith
 number_lt bs at (suc w) h =
-    let b = get_or bs (at + w) 0 in
-    let parts = and_parts (all_digits bs at w) (is_digit b) h in
-    let high = leb-true b 57 (and_parts (leb 48 b) (leb b 57) parts.1).1 in
-    omega (arith, pow-suc 10 w, number_lt bs at w parts.0, high)
+    let before : all_digits bs at w ≡ true = grind (arith, nat_tests) in
+    let high : get_or bs (at + w) 0 ≤ 57 = grind (arith, nat_tests) in
+    omega (arith, pow-suc 10 w, number_lt bs at w before)
 
 -- up to 18 digits there is room for one more
 pub number_room : (bs : List ℕ) (at w : ℕ) → all_digits bs at w ≡ true → w < 18 → number bs at w < 10 ^ 18
