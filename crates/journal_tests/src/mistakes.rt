@@ -1,25 +1,19 @@
 // Whole journals: how many statements they have, or where they are refused and what was expected there.
-use answer_text::mistakes::{expected_words, mistake_line};
-use journal_text::entries::{JournalFault, read_journal};
-use posting::order::{read_head, wanted_words};
+use journal_text::entries::read_journal;
+use posting::order::read_head;
 use std::alloc::Global;
 use std::process::Abort;
 use std::test::Fail;
 
 // What is told of a journal: nothing, or its mistake.
 fn told(text: &[u8], heap: Global) -> Result<String, Fail> {
-    match read_journal(text, heap) {
-        Ok(journal) => match read_head(
-            journal.entries.as_slice(),
-            journal.lines.saturating_add(1),
-        ) {
-            Ok(_) => Ok(String::new(heap)),
-            Err(fault) => Ok(mistake_line(fault.line, wanted_words(fault.wanted), heap)?),
-        },
-        Err(JournalFault::Line { line, what }) => {
-            Ok(mistake_line(line, expected_words(what), heap)?)
-        }
-        Err(JournalFault::NoMemory) => Err(Fail::new("no memory")),
+    let journal = match read_journal(text, heap) {
+        Ok(journal) => journal,
+        Err(why) => return Ok(why.to_string(heap)?),
+    };
+    match read_head(journal.entries.as_slice(), journal.lines.saturating_add(1)) {
+        Ok(_) => Ok(String::new(heap)),
+        Err(mistake) => Ok(mistake.to_string(heap)?),
     }
 }
 

@@ -1,72 +1,101 @@
--- A text is cut at its line feeds.
-use Rattle.std.proofs.Common.{◌≡◌, ℕ, ◌+◌, ◌<◌, ◌≤◌, List, [], ◌∷◌, length, get_or, drop, Some, None, Ok, Err, Option, Result, sym, refl, ap, ◌∙◌, arith}
-use Rattle.std.proofs.lemmas.Bool.{ne_eqb}
-use Rattle.std.specs.List.{between}
-use Rattle.std.proofs.lemmas.List.Edits.{between_more, between_none}
-use Rattle.std.proofs.lemmas.Slice.{between_to_end}
-use Rattle.std.proofs.lemmas.List.{at_drop_more, at_drop_all}
-use Rattle.statements.specs.Meanings.{Meaning, statement_of}
+-- A text is cut after its line feeds.
+use Rattle.std.proofs.Common.{◌≡◌, ℕ, zero, suc, ◌+◌, ◌-◌, ◌<◌, ◌≤◌, min, Bool, List, [], ◌∷◌, ◌++◌, length, get_or, take, drop, true, false, ◌==◌, refl, ap, subst, inl, inr, arith, append_assoc, Bor, Option, Some, None, Result, Ok, Err}
+use Rattle.std.proofs.lemmas.List.{append-nil, length-append, get_or_append_left, take-append-le}
+use Rattle.std.proofs.Math.Seq.{drop-append_seam}
+use Rattle.std.proofs.Math.Nat.{eq-or-lt_of_le}
+use Rattle.std.proofs.lemmas.Fn.{always_returns_same}
+use Rattle.std.specs.Fn.{Called, ComputesKey, Mut}
+use Rattle.std.specs.List.{AllWithin, IsFirstMatchOrLen}
+use Rattle.statements.specs.Meanings.{Meaning}
 use Rattle.statements.specs.declared.statement.ParseError.{ParseError}
-use Rattle.statements.specs.declared.statement.ParseError.TheVariants.{Expected as expected, NoMemory as parse_memory}
+use Rattle.posting.specs.Orders.{and_then}
 use Rattle.journal_text.specs.declared.entries.JournalFault.{JournalFault}
 use Rattle.journal_text.specs.declared.entries.JournalFault.TheVariants.{Line as at_line, NoMemory}
-use Rattle.journal_text.specs.Journals.{Text, and_then, one_more, lines_after, some_line, read_on, Read, Told}
+use Rattle.journal_text.specs.Journals.{Text, lines_after, lines_of, some_line, without_feed, one_more, Read, Told}
 
--- what is left of a text at a place, where the line began at another
-abbrev pub left_at : List ℕ → ℕ → ℕ → List (List ℕ)
-left_at text start place = lines_after (between start place text) (drop place text)
+abbrev is_feed : ℕ → Bool
+is_feed b = b == 10
 
-module _ (text : List ℕ) (start place : ℕ) (h : place < length text) where
-  pub at_feed : get_or text place 0 ≡ 10 → left_at text start place ≡ between start place text ∷ left_at text (place + 1) (place + 1)
-  unfolding lines_after
-  at_feed e = search (e, at_drop_more (lines_after (between start place text)) text place 0 h, between_none text (place + 1))
+-- no line feed in a text's first bytes
+below : (b : ℕ) (bs : List ℕ) (n : ℕ) → AllWithin (λ x. is_feed x ≡ false) (b ∷ bs) 0 (suc n) → AllWithin (λ x. is_feed x ≡ false) bs 0 n
+below b bs n none = λ k d l h. none (suc k) d (omega arith) (omega arith)
 
-  pub at_byte : start ≤ place → (get_or text place 0 ≡ 10 → Prim.⊥) → left_at text start place ≡ left_at text start (place + 1)
-  unfolding lines_after
-  at_byte k e =
-      at_drop_more (lines_after (between start place text)) text place 0 h
-      ∙ search (ne_eqb (get_or text place 0) 10 e, between_more text start place 0 k h)
-
--- at the end of the text
-pub at_end : (text : List ℕ) (start place : ℕ) → length text ≤ place → left_at text start place ≡ some_line (between start (length text) text)
+-- up to the first line feed
+to_feed : (i : ℕ) (line text : List ℕ) → i < length text → AllWithin (λ b. is_feed b ≡ false) text 0 i → is_feed (get_or text i 0) ≡ true → lines_after line text ≡ (line ++ take i text) ∷ lines_after [] (drop (suc i) text)
 unfolding lines_after
-at_end text start place h =
-    at_drop_all (lines_after (between start place text)) text place h ∙ ap some_line (between_to_end text start place h ∙ sym (between_to_end text start (length text) (omega arith)))
+to_feed i line [] h none feed = absurd (omega (arith, h))
+to_feed zero line (b ∷ bs) h none feed = rw (feed, append-nil)
+to_feed (suc i) line (b ∷ bs) h none feed =
+    let other : is_feed b ≡ false = none 0 0 (omega arith) (omega arith) in
+    let more = to_feed i (line ++ b ∷ []) bs (omega (arith, h)) (below b bs i none) feed in
+    rw other (rw append_assoc at more)
 
-pub and_then_ok : {E : Type 0} (r : Result Text E) → and_then r Ok ≡ r
-and_then_ok (Ok t) = refl
-and_then_ok (Err e) = refl
+-- to the end, where there is no line feed
+to_end : (line text : List ℕ) → AllWithin (λ b. is_feed b ≡ false) text 0 (length text) → lines_after line text ≡ some_line (line ++ text)
+unfolding lines_after
+to_end line [] none = rw append-nil
+to_end line (b ∷ bs) none =
+    let other : is_feed b ≡ false = none 0 0 (omega arith) (omega arith) in
+    let more = to_end (line ++ b ∷ []) bs (below b bs (length bs) none) in
+    rw other (rw append_assoc at more)
 
+-- a piece that ends in the first line feed
+feed_cut : (piece rest : List ℕ) (i : ℕ) → length piece ≡ suc i → IsFirstMatchOrLen is_feed (piece ++ rest) i → lines_of (piece ++ rest) ≡ without_feed piece ∷ lines_of rest
+feed_cut piece rest i h first =
+    let inside : i < length (piece ++ rest) = omega (arith, length-append piece rest) in
+    let last : length piece - 1 ≡ i = omega arith in
+    let feed : is_feed (get_or piece i 0) ≡ true = subst (λ b. is_feed b ≡ true) (get_or_append_left piece rest 0 i (omega arith)) (first.1 inside 0) in
+    let front : take i (piece ++ rest) ≡ take i piece = take-append-le i piece rest (omega arith) in
+    let back : drop (suc i) (piece ++ rest) ≡ rest = subst (λ n. drop n (piece ++ rest) ≡ rest) h (drop-append_seam piece rest) in
+    let cuts = to_feed i [] (piece ++ rest) inside first.0 (first.1 inside 0) in
+    rw last (rw feed (rw (front, back) at cuts))
+
+-- a piece that has no line feed
+whole_cut : (piece : List ℕ) (i : ℕ) → 0 < length piece → length piece ≤ i → IsFirstMatchOrLen is_feed piece i → lines_of piece ≡ without_feed piece ∷ []
+whole_cut (b ∷ bs) i some h first =
+    let piece = b ∷ bs in
+    let other : is_feed (get_or piece (length piece - 1) 0) ≡ false = first.0 (length piece - 1) 0 (omega arith) (omega arith) in
+    rw other (to_end [] piece (λ k d l m. first.0 k d l (omega arith)))
+whole_cut [] i some h first = absurd (omega arith)
+
+-- the first piece of a text that is cut after its line feeds is its first line
+pub cut : (piece rest : List ℕ) (i : ℕ) → length piece ≡ min (i + 1) (length (piece ++ rest)) → IsFirstMatchOrLen is_feed (piece ++ rest) i → 0 < length (piece ++ rest) → lines_of (piece ++ rest) ≡ without_feed piece ∷ lines_of rest
+unfolding lines_after
+cut piece [] i h first some =
+    let size : length (piece ++ []) ≡ length piece = ap length (append-nil piece) in
+    elim (eq-or-lt_of_le {n = length piece} {m = suc i} (omega arith)) [
+      | inl e ↦ feed_cut piece [] i e first
+      | inr l ↦ rw append-nil (whole_cut piece i (omega arith) (omega arith) (subst (λ text. IsFirstMatchOrLen is_feed text i) (append-nil piece) first))
+    ]
+cut piece (b ∷ bs) i h first some =
+    feed_cut piece (b ∷ bs) i (omega (arith, length-append piece (b ∷ bs))) first
+
+abbrev Steps : {F : Type 0} → Mut F (Bor ℕ × Unit {0}) Bool → List ℕ → F → List ℕ → List ℕ → F → Type 0
+Steps g text f piece rest f' =
+    (text ≡ piece ++ rest)
+    × ((i : ℕ) × (length piece ≡ min (i + 1) (length text)) × ((p : ℕ → Bool) → ComputesKey g p f → ComputesKey g p f' × IsFirstMatchOrLen p text i))
+    × (0 < length text)
+
+-- and so it is where a closure knows the line feeds
+pub next_line : {F : Type 0} (g : Mut F (Bor ℕ × Unit {0}) Bool) (text : List ℕ) (f : F) (piece rest : List ℕ) (f' : F) → ((a : Bor ℕ × Unit {0}) (r : Bool) (f' : F) → Called g f a r f' → (r ≡ is_feed a.0.now) × (f' ≡ f)) → Steps g text f piece rest f' → (lines_of text ≡ without_feed piece ∷ lines_of rest) × (length rest < length text)
+next_line g text f piece rest f' knows steps =
+    let first = (steps.1.2 is_feed (always_returns_same g _ f knows)).1 in (
+      rw steps.0 (cut piece rest steps.1.0 (rw steps.0 at steps.1.1) (rw steps.0 at first) (rw steps.0 at steps.2)),
+      omega (arith, ap length steps.0, length-append piece rest, steps.1.1, steps.2),
+    )
+
+pub no_line : (text : List ℕ) → length text ≡ 0 → lines_of text ≡ []
+unfolding lines_after
+no_line [] e = refl
+no_line (b ∷ bs) e = absurd (omega (arith, e))
+
+-- each line counts
 pub counted : (t : Text) (r : Result (Option Meaning) ParseError) (u : Text) → one_more t r ≡ Ok u → u.lines ≡ t.lines + 1
 counted t (Ok None) u e = grind (arith, e)
 counted t (Ok (Some m)) u e = grind (arith, e)
-counted t (Err (expected what)) u e = grind (arith, e)
-counted t (Err parse_memory) u e = grind (arith, e)
-
-module _ (ls : List (List ℕ)) (line : List ℕ) (t : Text) where
-  pub line_taken : (u : Text) → one_more t (statement_of line) ≡ Ok u → read_on ls u ≡ read_on (line ∷ ls) t
-  unfolding read_on
-  line_taken u e = sym (ap (λ r. and_then r (read_on ls)) e)
-
-  pub line_refused : (f : JournalFault) → one_more t (statement_of line) ≡ Err f → read_on (line ∷ ls) t ≡ Err f
-  unfolding read_on
-  line_refused f e = ap (λ r. and_then r (read_on ls)) e
-
-  -- each line counts
-  pub line_counted : (u : Text) → one_more t (statement_of line) ≡ Ok u → u.lines ≡ t.lines + 1
-  line_counted u e = counted t (statement_of line) u e
+counted t (Err why) u e = cc
 
 -- a text is refused where a line is
-pub refused_told : (m n : Result Text JournalFault) (f : JournalFault) (t : Text) → (n ≡ Err f → m ≡ Err f) → Read n (Err f) t → Told m (Err f)
-refused_told m n (at_line l w) t h r = h r
-refused_told m n NoMemory t h r = tt
-
-pub last_none : (rest : List ℕ) (t : Text) → length rest ≡ 0 → read_on (some_line rest) t ≡ Ok t
-unfolding read_on
-last_none [] t e = refl
-last_none (b ∷ bs) t e = absurd (omega (arith, e))
-
-pub last_some : (rest : List ℕ) (t : Text) → (length rest ≡ 0 → Prim.⊥) → read_on (some_line rest) t ≡ one_more t (statement_of rest)
-unfolding read_on
-last_some [] t e = absurd (e refl)
-last_some (b ∷ bs) t e = and_then_ok (one_more t (statement_of (b ∷ bs)))
+pub refused : (m : Result Text JournalFault) (f : JournalFault) (t : Text) (more : Text → Result Text JournalFault) → Read m (Err f) t → Told (and_then m more) (Err f)
+refused m (at_line mistake) t more h = rw h refl
+refused m NoMemory t more h = tt

@@ -1,12 +1,19 @@
 // The statements of a journal's text, each with the line where it stands.
-ghost use Rattle.std.specs.Prelude.{◌≡◌, ◌+◌, ◌<◌, ◌≤◌, [], length, OnOk};
-ghost use Rattle.journal_text.specs.Journals.{seen, empty, with_statement, one_more, lines_of, some_line, read_on, Read, Told};
+ghost use Rattle.std.specs.Prelude.{◌≡◌, ◌+◌, ◌<◌, ◌≤◌, length, OnOk, Some};
+ghost use Rattle.answer_text.specs.Reasons.{expected_text};
+ghost use Rattle.posting.specs.Mistakes.{mistake_text};
 ghost use Rattle.statements.specs.Meanings.{meaning, statement_of};
+ghost use Rattle.journal_text.specs.declared.entries.JournalFault.TheVariants.{NoMemory};
+ghost use Rattle.journal_text.specs.Journals.{seen, empty, with_statement, one_more, fault_on, fault_text, lines_of, without_feed, read_on, Read, Told};
 
+use answer_text::mistakes::expected_words;
 use posting::entry::Entry;
+use posting::mistake::Mistake;
 use statements::parse::parse;
 use statements::statement::{Expected, ParseError, Statement};
 use std::alloc::{AllocError, Global};
+use std::error::Error;
+use std::fmt;
 
 #[derive(Drop)]
 pub struct Journal {
@@ -17,11 +24,50 @@ pub struct Journal {
 }
 
 // Why a text is no journal.
-#[derive(Clone, Copy)]
+#[derive(Clone, Copy, PartialEq, Eq, Debug)]
 pub enum JournalFault {
-    // the first line that cannot be understood, counted from 1, and what was expected there
-    Line { line: usize, what: Expected },
+    // the first line that cannot be understood
+    Line(Mistake<Expected>),
     NoMemory,
+}
+
+impl fmt::Display for JournalFault {
+    ghost output = { λ why. fault_text why };
+
+    fn fmt<W: fmt::Write>(&self, f: &mut fmt::Formatter<W>) -> fmt::Result {
+        match self {
+            JournalFault::Line(mistake) => {
+                let mistake = Mistake {
+                    line: mistake.line,
+                    wanted: expected_words(mistake.wanted),
+                };
+                write!(f, "{mistake}")
+            }
+            JournalFault::NoMemory => f.write_str("there is no memory for the journal"),
+        }
+    }
+}
+
+impl Error for JournalFault {}
+
+impl From<AllocError> for JournalFault {
+    ghost from_gives = { λ _ why. why ≡ NoMemory };
+
+    fn from(_: AllocError) -> Self {
+        Self::NoMemory
+    }
+}
+
+impl JournalFault {
+    // What is wrong with a journal where its line is not understood.
+    fn on(line: usize, why: ParseError) -> JournalFault
+        ensures { result ≡ fault_on line why }
+    {
+        match why {
+            ParseError::Expected(wanted) => JournalFault::Line(Mistake { line, wanted }),
+            ParseError::NoMemory => JournalFault::NoMemory,
+        }
+    }
 }
 
 impl Journal {
@@ -29,12 +75,10 @@ impl Journal {
     fn keep(&mut self, statement: Statement, heap: Global) -> Result<(), AllocError>
         ensures { OnOk result (seen self.new ≡ with_statement (seen self.old) (meaning statement)) }
     {
-        let line = self.lines;
-        let file = Vec::new(heap);
         self.entries.push(Entry {
-            line,
+            line: self.lines,
             statement,
-            file,
+            file: Vec::new(heap),
         })?;
         Ok(())
     }
@@ -46,29 +90,18 @@ impl Journal {
     {
         self.lines += 1;
         let line = self.lines;
-        match parse(text, heap) {
-            Ok(None) => Ok(()),
-            Ok(Some(statement)) => {
-                let Ok(()) = self.keep(statement, heap) else {
-                    return Err(JournalFault::NoMemory);
-                };
-                Ok(())
-            }
-            Err(ParseError::Expected(what)) => Err(JournalFault::Line { line, what }),
-            Err(ParseError::NoMemory) => Err(JournalFault::NoMemory),
+        if let Some(statement) = parse(text, heap).map_err(|why| JournalFault::on(line, why))? {
+            self.keep(statement, heap)?;
         }
+        Ok(())
     }
+}
 
-    // What follows the last line feed is a line where it has some bytes.
-    fn add_last(&mut self, rest: &[u8], heap: Global) -> Result<(), JournalFault>
-        requires { self.old.lines + length rest.now ≤ 18446744073709551615 }
-        ensures { Read (read_on (some_line rest.now) (seen self.old)) result (seen self.new) }
-    {
-        if rest.is_empty() {
-            return Ok(());
-        }
-        self.add(rest, heap)
-    }
+// A line without the line feed that ends it.
+fn without_feed(line: &[u8]) -> &[u8]
+    ensures { result.now ≡ without_feed line.now }
+{
+    line.strip_suffix(b"\n").unwrap_or(line)
 }
 
 // The statements of a text, or the first line that cannot be understood.
@@ -79,14 +112,8 @@ pub fn read_journal(text: &[u8], heap: Global) -> Result<Journal, JournalFault>
         entries: Vec::new(heap),
         lines: 0,
     };
-    let mut start = 0;
-    for (place, byte) in text.iter().enumerate() {
-        if *byte != b'\n' {
-            continue;
-        }
-        journal.add(&text[start..place], heap)?;
-        start = place + 1;
+    for line in text.split_inclusive(|byte| *byte == b'\n') {
+        journal.add(without_feed(line), heap)?;
     }
-    journal.add_last(&text[start..], heap)?;
     Ok(journal)
 }

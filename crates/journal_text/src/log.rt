@@ -9,6 +9,7 @@ use answer_text::refusals::refusal_line;
 use crediting::rates::RatesRefusal;
 use ledger::call::{Done, Refusal};
 use posting::note::Note;
+use refusals::Numbered;
 use request_text::words;
 use requests::fault::RequestRefusal;
 use std::alloc::{AllocError, Global};
@@ -34,10 +35,7 @@ pub fn word(note: Note) -> &'static str
 pub fn is_call(note: Note) -> bool
     ensures { result ≡ calls_ledger note }
 {
-    match note {
-        Note::Rates(_) | Note::Request(_) => false,
-        _ => true,
-    }
+    !matches!(note, Note::Rates(_) | Note::Request(_))
 }
 
 fn rates_line(judged: Result<(), RatesRefusal>, heap: Global) -> Result<String, AllocError>
