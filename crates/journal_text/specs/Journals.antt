@@ -1,6 +1,6 @@
 -- The statements of a journal's text.
 use Rattle.std.specs.Prelude.{◌≡◌, ℕ, ◌+◌, ◌-◌, cond, if◌then◌else◌, length, take, slice_index, List, [], ◌∷◌, ◌++◌, map, Some, None, Ok, Err, vec_items, Option, Result, codes, ◌==◌}
-use Rattle.answer_text.specs.Reasons.{expected_text}
+use Rattle.statements.specs.Mistakes.{expected_text}
 use Rattle.statements.specs.Meanings.{Meaning, statement_of}
 use Rattle.statements.specs.declared.statement.ParseError.{ParseError}
 use Rattle.statements.specs.declared.statement.ParseError.TheVariants.{Expected as expected, NoMemory as parse_memory}

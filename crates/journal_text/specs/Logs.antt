@@ -1,14 +1,13 @@
 -- The line that is printed for a statement that answers.
 use Rattle.std.specs.Prelude.{ℕ, Bool, true, false, List, [], Some, None, Ok, Err, codes, Option, Result}
-use Rattle.crediting.specs.Refusals.{number, place}
+use Rattle.crediting.specs.Refusals.{number, place, reason}
 use Rattle.crediting.specs.declared.rates.RatesRefusal.{RatesRefusal}
-use Rattle.requests.specs.Causes.{number_of, place_of}
+use Rattle.requests.specs.Causes.{number_of, place_of, words_of}
 use Rattle.requests.specs.declared.fault.RequestRefusal.{RequestRefusal}
-use Rattle.request_text.specs.Texts.{words_of}
 use Rattle.ledger.specs.declared.call.Done.{Done}
 use Rattle.ledger.specs.declared.call.Refusal.{Refusal}
 use Rattle.answer_text.specs.Answers.{answer_text, request_text}
-use Rattle.answer_text.specs.Reasons.{refused_text, rates_reason_of}
+use Rattle.answer_text.specs.Reasons.{refused_text}
 use Rattle.posting.specs.declared.note.Note.{Note}
 use Rattle.posting.specs.declared.note.Note.TheVariants as note
 
@@ -37,7 +36,7 @@ calls_ledger note.Close = true
 
 abbrev pub rates_text : Result (Unit {0}) RatesRefusal → List ℕ
 rates_text (Ok _) = codes "rates: set"
-rates_text (Err why) = refused_text (codes "rates") (number why) (place why) (rates_reason_of why)
+rates_text (Err why) = refused_text (codes "rates") (number why) (place why) (reason why)
 
 abbrev pub file_text : Result ℕ RequestRefusal → List ℕ
 file_text (Ok lines) = request_text lines

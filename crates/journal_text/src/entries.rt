@@ -1,12 +1,11 @@
 // The statements of a journal's text, each with the line where it stands.
 ghost use Rattle.std.specs.Prelude.{◌≡◌, ◌+◌, ◌<◌, ◌≤◌, length, OnOk, Some};
-ghost use Rattle.answer_text.specs.Reasons.{expected_text};
+ghost use Rattle.statements.specs.Mistakes.{expected_text};
 ghost use Rattle.posting.specs.Mistakes.{mistake_text};
 ghost use Rattle.statements.specs.Meanings.{meaning, statement_of};
 ghost use Rattle.journal_text.specs.declared.entries.JournalFault.TheVariants.{NoMemory};
 ghost use Rattle.journal_text.specs.Journals.{seen, empty, with_statement, one_more, fault_on, fault_text, lines_of, without_feed, read_on, Read, Told};
 
-use answer_text::mistakes::expected_words;
 use posting::entry::Entry;
 use posting::mistake::Mistake;
 use statements::parse::parse;
@@ -36,13 +35,7 @@ impl fmt::Display for JournalFault {
 
     fn fmt<W: fmt::Write>(&self, f: &mut fmt::Formatter<W>) -> fmt::Result {
         match self {
-            JournalFault::Line(mistake) => {
-                let mistake = Mistake {
-                    line: mistake.line,
-                    wanted: expected_words(mistake.wanted),
-                };
-                write!(f, "{mistake}")
-            }
+            JournalFault::Line(mistake) => write!(f, "{mistake}"),
             JournalFault::NoMemory => f.write_str("there is no memory for the journal"),
         }
     }

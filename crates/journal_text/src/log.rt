@@ -4,13 +4,10 @@ ghost use Rattle.std.specs.Option.{option_map};
 ghost use Rattle.journal_text.specs.Logs.{word_of, calls_ledger, rates_text, file_text, call_text, note_text};
 
 use answer_text::answers::{RATES_SET, answer_line, request_line};
-use answer_text::reasons::rates_reason;
-use answer_text::refusals::refusal_line;
+use answer_text::refusal::refusal_line;
 use crediting::rates::RatesRefusal;
 use ledger::call::{Done, Refusal};
 use posting::note::Note;
-use refusals::Numbered;
-use request_text::words;
 use requests::fault::RequestRefusal;
 use std::alloc::{AllocError, Global};
 
@@ -43,7 +40,7 @@ fn rates_line(judged: Result<(), RatesRefusal>, heap: Global) -> Result<String, 
 {
     match judged {
         Ok(()) => String::from_str(heap, RATES_SET),
-        Err(why) => refusal_line("rates", why.number(), why.place(), rates_reason(&why), heap),
+        Err(why) => refusal_line("rates", &why, heap),
     }
 }
 
@@ -52,7 +49,7 @@ fn file_line(read: Result<usize, RequestRefusal>, heap: Global) -> Result<String
 {
     match read {
         Ok(lines) => request_line(lines, heap),
-        Err(why) => refusal_line("request", why.number(), why.place(), words(&why), heap),
+        Err(why) => refusal_line("request", &why, heap),
     }
 }
 

@@ -7,7 +7,7 @@ use accounts::project::Project;
 use accounts::record::{Kind, Line, Record, Size};
 use answer_text::answers::answer_line;
 use answer_text::books::{account_line, ledger_line};
-use answer_text::refusals::declined_line;
+use answer_text::refusal::refusal_line;
 use anyhow::anyhow;
 use crediting::method::CreditMethod;
 use crediting::value_stack::ValueStack;
@@ -142,7 +142,7 @@ fn post<M: CreditMethod + Copy, B: AccountBook>(
     match run(&mut ledger, EXEMPT, book, &calls, heap) {
         Ok(said) => print_answers(rt, &calls, &said)?,
         Err(RunRefusal::NotOpened(why)) => {
-            let text = declined_line("open", why, heap)?;
+            let text = refusal_line("open", &why, heap)?;
             println!(rt; "{text}")?;
         }
         Err(RunRefusal::NoMemory) => return Err(anyhow!("no memory for the answers")),
