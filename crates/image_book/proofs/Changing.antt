@@ -1,11 +1,12 @@
 -- Adding and replacing in an image that opens.
 use Rattle.std.proofs.Common.{◌≡◌, ℕ, ◌+◌, ◌-◌, ◌/◌, ◌^◌, ◌<◌, ◌≤◌, min, true, List, [], ◌∷◌, ◌++◌, length, set, is_some, Some, ap, ◌∙◌, ⊎_elim, add-one, arith, below_more}
 use Rattle.std.proofs.lemmas.Bool.{cases_eq}
+use Rattle.std.specs.Int.{w32, to_le_bytes, from_le_bytes}
 use Rattle.accounts.specs.declared.record.Record.{Record}
 use Rattle.accounts.specs.Ranges.{in_range}
 use Rattle.accounts.specs.Books.{accounts, distinct, takes, suits}
 use Rattle.accounts.proofs.Keeping.{proper_add, proper_replace}
-use Rattle.record_codec.specs.Bytes.{le, worth, written}
+use Rattle.record_codec.specs.Bytes.{written}
 use Rattle.record_codec.specs.Codec.{encoded, decoded}
 use Rattle.record_codec.proofs.Inverse.{decoded_encoded}
 use Rattle.image_book.specs.Images.{capacity_of, start_of, slot, held}
@@ -17,7 +18,7 @@ abbrev pub with_record : ℕ → Record → List ℕ → List ℕ
 with_record i r bs = written (start_of i) (encoded r) bs
 
 abbrev pub with_added : ℕ → Record → List ℕ → List ℕ
-with_added n r bs = written 0 (le 4 (n + 1)) (with_record n r bs)
+with_added n r bs = written 0 (to_le_bytes w32 (n + 1)) (with_record n r bs)
 
 module _ (bs : List ℕ) (n room : ℕ) (o : Open bs n room) (r : Record) (ok : in_range r ≡ true) where
   module _ (h : n < room) (t : takes (held n bs) room r ≡ true) where
@@ -27,7 +28,7 @@ module _ (bs : List ℕ) (n room : ℕ) (o : Open bs n room) (r : Record) (ok : 
     long : 4 ≤ length (with_record n r bs)
     long = let e = length_put bs n within r in let l = o.long in omega arith
 
-    small : n + 1 < 256 ^ 4
+    small : n + 1 < 2 ^ 32
     small = let w = within in omega arith
 
     slots : (j : ℕ) → slot j (with_added n r bs) ≡ slot j (with_record n r bs)
@@ -76,7 +77,7 @@ module _ (bs : List ℕ) (n room : ℕ) (o : Open bs n room) (r : Record) (ok : 
         let p = proper_replace (held n bs) room i r (proper_open bs n room o) t in
         record {
           long = omega arith;
-          count = ap worth (count_put bs i inside r) ∙ o.count;
+          count = ap (from_le_bytes w32) (count_put bs i inside r) ∙ o.count;
           whole = ap (λ k. min 4096 ((k - 4) / 36)) e ∙ o.whole;
           fits = o.fits;
           legible = λ j k.

@@ -1,16 +1,10 @@
 -- What an image is refused for.
-use Rattle.std.proofs.Common.{◌≡◌, ℕ, ◌≤◌, Bool, true, false, not, ltb, List, length, Some, None, Option, ap, ◌∙◌, arith}
-use Rattle.std.proofs.lemmas.Bool.{cond_both, cond-false, or_parts, or_from, ltb-false, le-ltb}
+use Rattle.std.proofs.Common.{◌≡◌, ℕ, ◌≤◌, false, ltb, List, length, Some, Option, ap, ◌∙◌}
+use Rattle.std.proofs.lemmas.Bool.{cond-false, or_parts, or_from, ltb-false, le-ltb}
 use Rattle.image_book.specs.Images.{count_in, capacity_of}
-use Rattle.image_book.specs.Refusals.{lacks_room, start_refusal, first_unfit, seventh, open_refusal}
+use Rattle.image_book.specs.Refusals.{lacks_room, first_unfit, seventh, open_refusal}
 
 module _ (bs : List ℕ) where
-  pub room_found : None ≡ start_refusal bs → lacks_room bs ≡ false
-  room_found e =
-      cond_both (lacks_room bs) (Some (6, 0)) None (λ o. None ≡ o → lacks_room bs ≡ false)
-      (λ _ f. let z : ◌≡◌ {A = ℕ} 0 1 = cc in absurd (omega arith))
-      (λ h _. h) e
-
   pub judged : lacks_room bs ≡ false → (o : Option ℕ) → first_unfit (count_in bs) 0 bs ≡ o → open_refusal bs ≡ seventh o
   judged h o e = cond-false (lacks_room bs) (Some (6, 0)) (seventh (first_unfit (count_in bs) 0 bs)) h ∙ ap seventh e
 
@@ -21,8 +15,3 @@ module _ (bs : List ℕ) where
 
   pub room_from : 4 ≤ length bs → count_in bs ≤ capacity_of bs → lacks_room bs ≡ false
   room_from l c = or_from (ltb (length bs) 4) (ltb (capacity_of bs) (count_in bs)) (le-ltb (length bs) 4 l) (le-ltb (capacity_of bs) (count_in bs) c)
-
--- a test and its opposite
-pub flipped : (a b : Bool) → a ≡ not b → b ≡ not a
-flipped true b h = grind arith
-flipped false b h = grind arith

@@ -1,4 +1,5 @@
 pub mod Parts
+pub mod Slots
 pub mod Places
 pub mod Judging
 pub mod Opening

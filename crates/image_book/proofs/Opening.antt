@@ -81,42 +81,19 @@ module _ (bs : List ℕ) where
   pub room_within : opened_room bs ≤ capacity_of bs
   room_within = cond_both (is_some (open_refusal bs)) 0 (capacity_of bs) (λ k. k ≤ capacity_of bs) (λ _. omega arith) (λ _. omega arith)
 
--- what a check answers
+-- what a check before a start answers
 told_err : (r : Result (Unit {0}) ImageRefusal) → is_err r ≡ is_some (told r)
 told_err (Ok x) = refl
 told_err (Err e) = refl
 
-start_some : (bs : List ℕ) → is_some (start_refusal bs) ≡ lacks_room bs
-start_some bs = cond_both (lacks_room bs) (Some (6, 0)) None (λ o. is_some o ≡ lacks_room bs) (λ e. sym e) (λ e. sym e)
-
-module _ (bs : List ℕ) (r : Result (Unit {0}) ImageRefusal) (t : Bool) (e : t ≡ is_err r) where
-  pub start_err : told r ≡ start_refusal bs → t ≡ lacks_room bs
-  start_err f = e ∙ (told_err r ∙ (ap is_some f ∙ start_some bs))
-
-  pub open_err : told r ≡ open_refusal bs → t ≡ is_some (open_refusal bs)
-  open_err f = e ∙ (told_err r ∙ ap is_some f)
-
--- an image that lacks the room opens as nothing
-pub lacking : (bs : List ℕ) → lacks_room bs ≡ true → true ≡ is_some (open_refusal bs)
-lacking bs h = sym (ap is_some (cond-true (lacks_room bs) (Some (6, 0)) (seventh (first_unfit (count_in bs) 0 bs)) h))
-
-not_some : {X : Type 0} (o : Option X) → false ≡ is_some o → o ≡ None
-not_some None e = refl
-not_some (Some x) e = let z : ◌≡◌ {A = ℕ} 0 1 = cc in absurd (omega arith)
+pub start_err : (bs : List ℕ) (r : Result (Unit {0}) ImageRefusal) (t : Bool) → t ≡ is_err r → told r ≡ start_refusal bs → t ≡ lacks_room bs
+start_err bs r t e f =
+    e
+    ∙ (told_err r
+    ∙ (ap is_some f ∙ cond_both (lacks_room bs) (Some (6, 0)) None (λ o. is_some o ≡ lacks_room bs) (λ e. sym e) (λ e. sym e)))
 
 module _ (bs : List ℕ) where
-  pub opens : false ≡ is_some (open_refusal bs) → Open bs (count_in bs) (capacity_of bs)
-  opens e = none_open bs (not_some (open_refusal bs) e)
-
-  -- a refused image makes an empty book of no room
-  module _ (refused : true ≡ is_some (open_refusal bs)) where
-    pub count_none : 0 ≡ opened_count bs
-    count_none = sym (cond-true (is_some (open_refusal bs)) 0 (count_in bs) (sym refused))
-
-    pub room_none : 0 ≡ opened_room bs
-    room_none = sym (cond-true (is_some (open_refusal bs)) 0 (capacity_of bs) (sym refused))
-
-  pub proper_none : Proper (held 0 bs) 0
+  proper_none : Proper (held 0 bs) 0
   unfolding held
   proper_none = record { ranged = refl; apart = refl; fits = omega arith; bounded = omega arith }
 
@@ -134,6 +111,22 @@ module _ (bs : List ℕ) where
     same_room = room_open bs n room o;
   }
 
-  pub reads_none : true ≡ is_some (open_refusal bs) → Reads bs 0 0
+  reads_none : is_some (open_refusal bs) ≡ true → Reads bs 0 0
   unfolding held
-  reads_none h = record { proper = proper_none; whole = refl; same_count = count_none h; same_room = room_none h }
+  reads_none h = record {
+    proper = proper_none;
+    whole = refl;
+    same_count = sym (cond-true (is_some (open_refusal bs)) 0 (count_in bs) h);
+    same_room = sym (cond-true (is_some (open_refusal bs)) 0 (capacity_of bs) h);
+  }
+
+  -- an image that opens, and one that is refused
+  pub reads_ok : (n room : ℕ) → None ≡ open_refusal bs → n ≡ count_in bs → room ≡ capacity_of bs → Reads bs n room
+  reads_ok n room e a b = subst (λ k. Reads bs k room) (sym a) (subst (λ k. Reads bs (count_in bs) k) (sym b) (reads_open (count_in bs) (capacity_of bs) (none_open bs (sym e))))
+
+  pub reads_err : (n room : ℕ) (r : ℕ × ℕ) → Some r ≡ open_refusal bs → n ≡ 0 → room ≡ 0 → Reads bs n room
+  reads_err n room r e a b = subst (λ k. Reads bs k room) (sym a) (subst (λ k. Reads bs 0 k) (sym b) (reads_none (ap is_some (sym e))))
+
+  -- an image that lacks the room opens as nothing
+  pub reads_lacking : true ≡ lacks_room bs → Reads bs 0 0
+  reads_lacking h = reads_none (ap is_some (cond-true (lacks_room bs) (Some (6, 0)) (seventh (first_unfit (count_in bs) 0 bs)) (sym h)))

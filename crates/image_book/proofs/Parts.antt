@@ -1,12 +1,8 @@
 -- Parts of an image, before and after a write.
-use Rattle.std.proofs.Common.{◌≡◌, ℕ, ◌+◌, ◌-◌, ◌<◌, ◌≤◌, cond, eqb, List, ◌++◌, length, take, drop, Some, None, sym, refl, ap, ◌∙◌, append_assoc, arith}
+use Rattle.std.proofs.Common.{◌≡◌, ℕ, ◌+◌, ◌-◌, ◌≤◌, List, ◌++◌, length, take, drop, sym, refl, ap, ◌∙◌, append_assoc, arith}
 use borrow.Rule.Slice.PartMut.{put_mid}
-use Rattle.std.proofs.lemmas.List.{length-append, length-take-le, length-drop, drop-drop, drop_at, take_at, drop-append-le, take-append-le, take-take, drop-take, at_drop_more, at_drop_all}
-use Rattle.std.proofs.lemmas.List.FromFn.{length-map-range_with_len, get_or-map-range_with_len}
-use Rattle.std.proofs.lemmas.Bool.{eq-eqb, ne_eqb, cond-true, cond-false}
-use Rattle.accounts.specs.Books.{find_from}
+use Rattle.std.proofs.lemmas.List.{length-append, length-take-le, length-drop, drop-drop, drop_at, take_at, drop-append-le, take-append-le, take-take, drop-take}
 use Rattle.record_codec.specs.Bytes.{part, written}
-use Rattle.image_book.specs.Images.{account_at, accounts_in}
 
 pub written_part : (at : ℕ) (bs ys new : List ℕ) → ys ≡ new → put_mid at (at + length new - at) bs ys ≡ written at new bs
 written_part at bs ys new e =
@@ -55,21 +51,3 @@ module _ (at : ℕ) (new bs : List ℕ) (fits : at + length new ≤ length bs) w
       ∙ (ap (λ xs. drop (at' - (at + length new)) xs) s
       ∙ (drop-drop (at' - (at + length new)) (at + length new) bs ∙ ap (λ n. drop n bs) m))) in
       ap (λ xs. take width xs) e
-
--- a search along the places
-module _ (bs : List ℕ) (n a i : ℕ) where
-  next : i < n → find_from i a (drop i (accounts_in n bs)) ≡ cond (eqb (account_at bs i) a) (Some i) (find_from (i + 1) a (drop (i + 1) (accounts_in n bs)))
-  next h =
-      let l = length-map-range_with_len (account_at bs) 0 n in
-      let e = at_drop_more (find_from i a) (accounts_in n bs) i 0 (omega arith) in
-      let g = get_or-map-range_with_len (account_at bs) 0 n i i 0 h (omega arith) in
-      e ∙ ap (λ x. cond (eqb x a) (Some i) (find_from (i + 1) a (drop (i + 1) (accounts_in n bs)))) g
-
-  pub found_here : i < n → account_at bs i ≡ a → find_from i a (drop i (accounts_in n bs)) ≡ Some i
-  found_here h e = next h ∙ cond-true (eqb (account_at bs i) a) (Some i) (find_from (i + 1) a (drop (i + 1) (accounts_in n bs))) (eq-eqb (account_at bs i) a e)
-
-  pub found_later : i < n → (account_at bs i ≡ a → ⊥) → find_from i a (drop i (accounts_in n bs)) ≡ find_from (i + 1) a (drop (i + 1) (accounts_in n bs))
-  found_later h e = next h ∙ cond-false (eqb (account_at bs i) a) (Some i) (find_from (i + 1) a (drop (i + 1) (accounts_in n bs))) (ne_eqb (account_at bs i) a e)
-
-  pub found_nowhere : n ≤ i → find_from i a (drop i (accounts_in n bs)) ≡ None
-  found_nowhere h = let l = length-map-range_with_len (account_at bs) 0 n in at_drop_all (find_from i a) (accounts_in n bs) i (omega arith)

@@ -1,23 +1,24 @@
 -- The records of an image's first places.
-use Rattle.std.proofs.Common.{◌≡◌, ℕ, zero, suc, ◌+◌, ◌-◌, ◌<◌, ◌≤◌, true, false, List, [], ◌∷◌, ◌++◌, length, get_or, drop, is_some, Some, None, Option, sym, refl, ap, ◌∙◌, subst, ⊎_elim, add-one, arith, below_more}
-use Rattle.std.proofs.lemmas.List.{length_push, map_push, take-take, get_or_append_left, get_or_at}
+use Rattle.std.proofs.Common.{◌≡◌, ℕ, zero, suc, ◌+◌, ◌<◌, ◌≤◌, Bool, true, false, eqb, List, [], ◌∷◌, ◌++◌, map, length, get_or, take, is_some, MatchOption, Some, None, Option, sym, refl, ap, ◌∙◌, subst, ⊎_elim, add-one, arith}
+use Rattle.std.proofs.lemmas.List.{length_push, map_push, get_or_append_left, get_or_at}
 use Rattle.std.proofs.lemmas.List.FromFn.{map-range_with_len_more}
+use Rattle.std.proofs.lemmas.Simd.{map-map}
 use Rattle.std.proofs.lemmas.Option.{slice_get-get_or}
 use Rattle.std.proofs.lemmas.Bool.{cond_both, cond-true, cond-false, cases_eq}
 use Rattle.std.proofs.lemmas.Bool.Decides.{nat_tests}
-use Rattle.std.specs.List.{slice_get}
+use Rattle.std.specs.List.{slice_get, range_with_len, position}
 use Rattle.std.specs.Option.{option_to_list}
 use Rattle.accounts.specs.declared.record.Record.{Record}
 use Rattle.accounts.specs.Ranges.{in_range}
 use Rattle.accounts.specs.Books.{accounts, find, present, distinct, every}
 use Rattle.accounts.proofs.Finding.{found_present, distinct_push, present_push}
 use Rattle.accounts.proofs.Keeping.{every_push}
-use Rattle.record_codec.specs.Bytes.{worth}
 use Rattle.record_codec.specs.Codec.{decoded}
 use Rattle.record_codec.proofs.Inverse.{holds_decoded, in_range_decoded}
-use Rattle.image_book.specs.Images.{start_of, slot, held, account_at, accounts_in}
+use Rattle.image_book.specs.Images.{capacity_of, slot, slots_in, held, account_in}
 use Rattle.image_book.specs.Refusals.{unfit_after, unfit, first_unfit}
 use Rattle.image_book.specs.Reading.{Legible}
+use Rattle.image_book.proofs.Slots.{first_slots, find_position}
 
 pub some_of : {X : Type 0} (o : Option X) → is_some o ≡ true → (x : X) × (o ≡ Some x)
 some_of None h = let z : ◌≡◌ {A = ℕ} 0 1 = cc in absurd (omega arith)
@@ -60,10 +61,11 @@ module _ (bs : List ℕ) where
       let ih = length_held n (legible_less (suc n) n (omega arith) l) in
       omega arith
 
-  pub account_of : (i : ℕ) (r : Record) → decoded (slot i bs) ≡ Some r → account_at bs i ≡ r.account
-  account_of i r e = ap worth (sym (take-take 8 36 (drop (start_of i) bs) (omega arith))) ∙ (holds_decoded (slot i bs) r e).account
+  account_of : (i : ℕ) (r : Record) → decoded (slot i bs) ≡ Some r → account_in (slot i bs) ≡ r.account
+  unfolding account_in
+  account_of i r e = (holds_decoded (slot i bs) r e).account
 
-  pub accounts_held : (n : ℕ) → Legible n bs → accounts (held n bs) ≡ accounts_in n bs
+  accounts_held : (n : ℕ) → Legible n bs → accounts (held n bs) ≡ map (λ i. account_in (slot i bs)) (range_with_len 0 n)
   unfolding held
   accounts_held zero l = refl
   accounts_held (suc n) l =
@@ -72,9 +74,14 @@ module _ (bs : List ℕ) where
       let p = map_push (λ (r : Record). r.account) (held n bs) s.0 in
       let a = account_of n s.0 s.1 in
       let ih = accounts_held n (legible_less (suc n) n (omega arith) l) in
-      let m = map-range_with_len_more (account_at bs) 0 n n (omega arith) in
-      let k : accounts_in (n + 1) bs ≡ accounts_in (suc n) bs = ap (λ j. accounts_in j bs) (add-one n) in
-      e ∙ (p ∙ (ap (λ xs. xs ++ s.0.account ∷ []) ih ∙ (ap (λ x. accounts_in n bs ++ x ∷ []) (sym a) ∙ (sym m ∙ k))))
+      let m = map-range_with_len_more (λ i. account_in (slot i bs)) 0 n n (omega arith) in
+      let k = ap (λ j. map (λ i. account_in (slot i bs)) (range_with_len 0 j)) (add-one n) in
+      e ∙ (p ∙ (ap (λ xs. xs ++ s.0.account ∷ []) ih ∙ (ap (λ x. map (λ i. account_in (slot i bs)) (range_with_len 0 n) ++ x ∷ []) (sym a) ∙ (sym m ∙ k))))
+
+  -- a search among the first places
+  pub found_held : (n a : ℕ) → Legible n bs → n ≤ capacity_of bs → position (λ s. eqb (account_in s) a) (take n (slots_in bs)) ≡ find a (accounts (held n bs))
+  found_held n a l h =
+      find_position account_in a (take n (slots_in bs)) ∙ ap (find a) (ap (map account_in) (first_slots bs n h) ∙ (map-map account_in (λ i. slot i bs) (range_with_len 0 n) ∙ sym (accounts_held n l)))
 
   getD_held : (n i : ℕ) (r d : Record) → Legible n bs → i < n → decoded (slot i bs) ≡ Some r → get_or (held n bs) i d ≡ r
   unfolding held
@@ -149,25 +156,37 @@ module _ (bs : List ℕ) where
       (λ u f. ⊎_elim (λ q. ap (λ m. unfit m bs) (sym q) ∙ u) (λ q. none_fit k (i + 1) f j (omega arith) (omega arith)) (cases_eq i j))
       e
 
-  -- one place more in a check
-  pub first_unfit_step : (n i : ℕ) → i < n → unfit i bs ≡ false → first_unfit (n - i) i bs ≡ first_unfit (n - (i + 1)) (i + 1) bs
-  first_unfit_step n i h u =
-      let w : n - i ≡ suc (n - (i + 1)) = omega arith in
-      ap (λ k. first_unfit k i bs) w ∙ cond-false (unfit i bs) (Some i) (first_unfit (n - (i + 1)) (i + 1) bs) u
+  fit_some : (k i m : ℕ) → m < k → ((j : ℕ) → i ≤ j → j < i + m → unfit j bs ≡ false) → unfit (i + m) bs ≡ true → first_unfit k i bs ≡ Some (i + m)
+  fit_some zero i m h f u = absurd (omega arith)
+  fit_some (suc k) i zero h f u =
+      let e : i + 0 ≡ i = omega arith in
+      cond-true (unfit i bs) (Some i) (first_unfit k (i + 1) bs) (ap (λ j. unfit j bs) (sym e) ∙ u) ∙ ap Some (sym e)
+  fit_some (suc k) i (suc m) h f u =
+      let e : i + suc m ≡ i + 1 + m = omega arith in
+      cond-false (unfit i bs) (Some i) (first_unfit k (i + 1) bs) (f i (omega arith) (omega arith))
+      ∙ (fit_some k (i + 1) m (omega arith) (λ j p q. f j (omega arith) (omega arith)) (ap (λ j. unfit j bs) (sym e) ∙ u) ∙ ap Some (sym e))
 
-  pub first_unfit_here : (n i : ℕ) → i < n → unfit i bs ≡ true → first_unfit (n - i) i bs ≡ Some i
-  first_unfit_here n i h u =
-      let w : n - i ≡ suc (n - (i + 1)) = omega arith in
-      ap (λ k. first_unfit k i bs) w ∙ cond-true (unfit i bs) (Some i) (first_unfit (n - (i + 1)) (i + 1) bs) u
+  -- what is judged of a place whose earlier places are legible
+  abbrev pub Judged : ℕ → Bool → Type 0
+  Judged i b = i < capacity_of bs → Legible i bs → b ≡ unfit i bs
 
-  pub first_unfit_end : (n i : ℕ) → n ≤ i → first_unfit (n - i) i bs ≡ None
-  first_unfit_end n i h = let w : n - i ≡ 0 = omega arith in ap (λ k. first_unfit k i bs) w
+  all_fit : (n : ℕ) → n ≤ capacity_of bs → ((k : ℕ) → k < n → Judged k false) → (k : ℕ) → k < n → unfit k bs ≡ false
+  all_fit zero h f k l = absurd (omega arith)
+  all_fit (suc n) h f k l =
+      let before = all_fit n (omega arith) (λ j q. f j (omega arith)) in
+      ⊎_elim (λ q. ap (λ j. unfit j bs) q ∙ sym (f n (omega arith) (omega arith) (legible_fit n before))) (λ q. before k (omega arith)) (cases_eq k n)
 
-  pub legible_more : (n : ℕ) → Legible n bs → unfit n bs ≡ false → Legible (n + 1) bs
-  legible_more n l u = below_more (λ i. is_some (decoded (slot i bs)) ≡ true) n l (legible_of (accounts (held n bs)) (decoded (slot n bs)) u)
+  -- the first place that is judged unfit
+  pub first_judged : (n : ℕ) → n ≤ capacity_of bs → (o : Option ℕ) → MatchOption o ((k : ℕ) → 0 ≤ k → k < n → Judged k false) (λ i. (0 ≤ i) × (i < n) × Judged i true × ((k : ℕ) → 0 ≤ k → k < i → Judged k false)) → o ≡ first_unfit n 0 bs
+  first_judged n h None f = let fit = all_fit n h (λ k q. f k (omega arith) q) in sym (fit_none n 0 (λ j p q. fit j (omega arith)))
+  first_judged n h (Some i) (low, l, u, f) =
+      let fit = all_fit i (omega arith) (λ k q. f k (omega arith) q) in
+      let e : 0 + i ≡ i = omega arith in
+      let there = sym (u (omega arith) (legible_fit i fit)) in
+      sym (fit_some n 0 i l (λ j p q. fit j (omega arith)) (ap (λ j. unfit j bs) e ∙ there) ∙ ap Some e)
 
   -- a record is fit where a search of the earlier places does not find its account
-  pub unfit_found : (i : ℕ) (r : Record) → Legible i bs → decoded (slot i bs) ≡ Some r → is_some (find r.account (accounts_in i bs)) ≡ unfit i bs
-  unfit_found i r l e =
-      ap (λ xs. is_some (find r.account xs)) (sym (accounts_held i l))
+  pub unfit_found : (i : ℕ) (r : Record) → Legible i bs → i ≤ capacity_of bs → decoded (slot i bs) ≡ Some r → is_some (position (λ s. eqb (account_in s) r.account) (take i (slots_in bs))) ≡ unfit i bs
+  unfit_found i r l h e =
+      ap is_some (found_held i r.account l h)
       ∙ (found_present r.account 0 (accounts (held i bs)) ∙ ap (unfit_after (accounts (held i bs))) (sym e))

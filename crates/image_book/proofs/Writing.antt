@@ -2,11 +2,12 @@
 use Rattle.std.proofs.Common.{◌≡◌, ℕ, zero, suc, ◌+◌, ◌-◌, ◌/◌, ◌^◌, ◌<◌, ◌≤◌, min, false, List, [], ◌∷◌, ◌++◌, length, set, is_some, Some, sym, refl, ap, ◌∙◌, subst, ⊎_elim, arith}
 use Rattle.std.proofs.lemmas.List.{set-append_left, set_at}
 use Rattle.std.proofs.lemmas.Bool.{cases_eq, cases_order}
+use Rattle.std.proofs.lemmas.Nat.{from_le_bytes-to_le_bytes_4}
+use Rattle.std.specs.Int.{w32, to_le_bytes, from_le_bytes}
 use Rattle.std.specs.Option.{option_to_list}
 use Rattle.accounts.specs.declared.record.Record.{Record}
-use Rattle.record_codec.specs.Bytes.{le, worth, part, written}
+use Rattle.record_codec.specs.Bytes.{part, written}
 use Rattle.record_codec.specs.Codec.{encoded, decoded}
-use Rattle.record_codec.proofs.Worth.{length_le, worth_le}
 use Rattle.record_codec.proofs.Inverse.{length_encoded}
 use Rattle.image_book.specs.Images.{count_in, capacity_of, start_of, slot, held}
 use Rattle.image_book.specs.Refusals.{lacks_room}
@@ -70,21 +71,21 @@ module _ (bs : List ℕ) (i : ℕ) (h : i < capacity_of bs) (r : Record) where
   count_put = part_before (start_of i) (encoded r) bs fits 0 4 (omega arith)
 
 -- the count written
-module _ (bs : List ℕ) (long : 4 ≤ length bs) (n : ℕ) (small : n < 256 ^ 4) where
-  count_fits : 0 + length (le 4 n) ≤ length bs
-  count_fits = let e = length_le 4 n in omega arith
+module _ (bs : List ℕ) (long : 4 ≤ length bs) (n : ℕ) (small : n < 2 ^ 32) where
+  count_fits : 0 + length (to_le_bytes w32 n) ≤ length bs
+  count_fits = omega arith
 
-  pub length_count : length (written 0 (le 4 n) bs) ≡ length bs
-  length_count = length_written 0 (le 4 n) bs count_fits
+  pub length_count : length (written 0 (to_le_bytes w32 n) bs) ≡ length bs
+  length_count = length_written 0 (to_le_bytes w32 n) bs count_fits
 
-  pub slot_count : (j : ℕ) → slot j (written 0 (le 4 n) bs) ≡ slot j bs
-  slot_count j = let e = length_le 4 n in part_after 0 (le 4 n) bs count_fits (start_of j) 36 (omega arith)
+  pub slot_count : (j : ℕ) → slot j (written 0 (to_le_bytes w32 n) bs) ≡ slot j bs
+  slot_count j = part_after 0 (to_le_bytes w32 n) bs count_fits (start_of j) 36 (omega arith)
 
-  pub count_count : count_in (written 0 (le 4 n) bs) ≡ n
-  count_count = ap worth (subst (λ w. part 0 w (written 0 (le 4 n) bs) ≡ le 4 n) (length_le 4 n) (part_same 0 (le 4 n) bs count_fits)) ∙ worth_le 4 n small
+  pub count_count : count_in (written 0 (to_le_bytes w32 n) bs) ≡ n
+  count_count = ap (from_le_bytes w32) (part_same 0 (to_le_bytes w32 n) bs count_fits) ∙ from_le_bytes-to_le_bytes_4 n small
 
 -- an image that is started opens as an empty book
-pub open_started : (bs : List ℕ) → lacks_room bs ≡ false → Open (written 0 (le 4 0) bs) 0 (capacity_of bs)
+pub open_started : (bs : List ℕ) → lacks_room bs ≡ false → Open (written 0 (to_le_bytes w32 0) bs) 0 (capacity_of bs)
 unfolding held
 open_started bs h =
     let long = (room_parts bs h).0 in

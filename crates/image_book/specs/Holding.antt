@@ -1,8 +1,9 @@
 -- A book in an image that is lent to it.
 use Rattle.std.specs.Prelude.{◌≡◌, ℕ, ◌+◌, Bool, cond, List, [], ◌∷◌}
+use Rattle.std.specs.Int.{w32, to_le_bytes}
 use Rattle.accounts.specs.declared.record.Record.{Record}
 use Rattle.accounts.specs.Books.{Contents}
-use Rattle.record_codec.specs.Bytes.{le, written}
+use Rattle.record_codec.specs.Bytes.{written}
 use Rattle.record_codec.specs.Codec.{encoded}
 use Rattle.image_book.specs.Images.{start_of, held}
 use Rattle.image_book.specs.Reading.{Reads}
@@ -36,7 +37,7 @@ ComesBack bs n room = (b : ImageBook) → Sound b → image_of b ≡ bs → (rec
 -- what adding leaves: where it is accepted, the 36 bytes after the last record and the four of the count are those of the
 -- new record and the new count; every other byte stays
 pub record Added (accepted : Bool) (b b₀ : ImageBook) (r : Record) : Type 0 where
-  pub image : image_of b ≡ cond accepted (written 0 (le 4 (b₀.count + 1)) (written (start_of b₀.count) (encoded r) (image_of b₀))) (image_of b₀)
+  pub image : image_of b ≡ cond accepted (written 0 (to_le_bytes w32 (b₀.count + 1)) (written (start_of b₀.count) (encoded r) (image_of b₀))) (image_of b₀)
   pub count : b.count ≡ cond accepted (b₀.count + 1) b₀.count
   pub room : room_of b ≡ room_of b₀
   pub loan : loan_of b ≡ loan_of b₀

@@ -1,5 +1,5 @@
 -- Why an image is refused, by number and place.
-use Rattle.std.specs.Prelude.{ℕ, zero, suc, ◌+◌, Bool, true, cond, ◌||◌, List, length, Some, None, Ok, Err, Option, Result, nat_lt}
+use Rattle.std.specs.Prelude.{ℕ, zero, suc, ◌+◌, Bool, true, cond, ◌||◌, List, length, Some, None, Ok, Err, Option, Result, nat_lt, codes}
 use Rattle.accounts.specs.declared.record.Record.{Record}
 use Rattle.accounts.specs.Books.{accounts, present}
 use Rattle.record_codec.specs.Codec.{decoded}
@@ -12,8 +12,13 @@ abbrev pub refusal : ImageRefusal → ℕ × ℕ
 refusal NoRoom = (6, 0)
 refusal (UnfitRecord place) = (7, place)
 
+-- why, in words
+abbrev pub reason_text : ImageRefusal → List ℕ
+reason_text NoRoom = codes "the image has under 4 bytes, or its count is above its capacity"
+reason_text (UnfitRecord place) = codes "the record is out of range, its account stands in an earlier place, or a filler byte is not 0"
+
 -- what an answer tells: nothing, or the number and the place
-abbrev pub told : Result (Unit {0}) ImageRefusal → Option (ℕ × ℕ)
+abbrev pub told : {T : Type 0} → Result T ImageRefusal → Option (ℕ × ℕ)
 told (Ok done) = None
 told (Err e) = Some (refusal e)
 

@@ -7,11 +7,10 @@ ghost use Rattle.image_book.specs.Reading.{opened_count, opened_room, started, s
 ghost use Rattle.image_book.specs.Holding.{image_of, loan_of, records_of, room_of, contents_of, Sound, ComesBack, Added, Replaced};
 
 use crate::layout;
-use crate::making::{begin, measure};
+use crate::making::{Extent, begin, measure};
 use accounts::book::AccountBook;
 use accounts::record::Record;
 use record_codec::codec::encode;
-use record_codec::numbers::four_bytes;
 
 // The count and the room are those of the image, read once; both are 0 where the image was unfit.
 #[derive(Drop)]
@@ -48,7 +47,7 @@ impl<'a> ImageBook<'a> {
         ensures sound { Sound result }
         ensures again { ComesBack image.old result.count (room_of result) }
     {
-        let (count, room) = measure(image);
+        let Extent { count, room } = measure(image);
         ImageBook { image, count, room }
     }
 
@@ -60,18 +59,11 @@ impl<'a> ImageBook<'a> {
         self.room.min(layout::capacity(self.image))
     }
 
-    // How many places are read; a count past the image's end counts no further.
-    fn end(&self) -> usize
-        ensures { result ≡ min self.now.count (capacity_of (image_of self.now)) }
-    {
-        self.count.min(layout::capacity(self.image))
-    }
-
     fn record(&self, place: usize) -> Option<Record>
         ensures bound { IfSome result (λ x. place < capacity_of (image_of self.now)) }
         ensures value { Sound self.now → result ≡ slice_get (records_of self.now) place }
     {
-        if place >= self.end() {
+        if place >= self.count {
             return None;
         }
         layout::record_at(self.image, place)
@@ -81,7 +73,7 @@ impl<'a> ImageBook<'a> {
         ensures found { Sound self.now → result ≡ find account (accounts (records_of self.now)) }
         ensures test { Sound self.now → is_some result ≡ present account (accounts (records_of self.now)) }
     {
-        layout::place_of(self.image, self.end(), account)
+        layout::place_of(self.image, self.count, account)
     }
 
     // Puts a record after the last.
@@ -93,7 +85,7 @@ impl<'a> ImageBook<'a> {
         let place = self.count;
         let at = layout::start(place);
         layout::put(self.image, at, &encode(&new));
-        layout::put(self.image, 0, &four_bytes(place as u32 + 1));
+        layout::put(self.image, 0, &(place as u32 + 1).to_le_bytes());
         self.count = place + 1;
     }
 

@@ -1,10 +1,14 @@
 // The checks of an image that come before a book is made of it.
-ghost use Rattle.std.specs.Prelude.{◌≡◌, ◌<◌, not, length};
-ghost use Rattle.image_book.specs.Images.{capacity_of};
-ghost use Rattle.image_book.specs.Refusals.{told, start_refusal, unfit, open_refusal};
+ghost use Rattle.std.specs.Prelude.{◌≡◌, ◌<◌, ◌≤◌, Some, IfOk};
+ghost use Rattle.std.proofs.Common.{rules};
+ghost use Rattle.image_book.specs.Images.{count_in, capacity_of};
+ghost use Rattle.image_book.specs.Refusals.{refusal, reason_text, told, start_refusal, unfit, first_unfit, open_refusal};
 ghost use Rattle.image_book.specs.Reading.{Legible};
 
 use crate::layout;
+use refusals::Numbered;
+use std::error::Error;
+use std::fmt;
 
 // Why an image is refused.
 #[derive(Clone, Copy, PartialEq, Eq, Debug)]
@@ -15,27 +19,89 @@ pub enum ImageRefusal {
     UnfitRecord(usize),
 }
 
+impl fmt::Display for ImageRefusal {
+    ghost output = { λ e. Some (reason_text e) };
+
+    fn fmt<W: fmt::Write>(&self, f: &mut fmt::Formatter<W>) -> fmt::Result {
+        f.write_str(match self {
+            ImageRefusal::NoRoom =>
+                "the image has under 4 bytes, or its count is above its capacity",
+            ImageRefusal::UnfitRecord(_) =>
+                "the record is out of range, its account stands in an earlier place, or a filler byte is not 0",
+        })
+    }
+}
+
+impl Error for ImageRefusal {}
+
+impl Numbered for ImageRefusal {
+    ghost number = { λ e. (refusal e).0 };
+
+    ghost place = { λ e. (refusal e).1 };
+
+    ghost reason = { reason_text };
+
+    ghost spoken = { λ e. Prim.search rules };
+
+    fn number(&self) -> u8 {
+        match self {
+            ImageRefusal::NoRoom => 6,
+            ImageRefusal::UnfitRecord(_) => 7,
+        }
+    }
+
+    fn place(&self) -> usize {
+        match self {
+            ImageRefusal::NoRoom => 0,
+            ImageRefusal::UnfitRecord(place) => *place,
+        }
+    }
+}
+
+// The count of an image that has room for so many records.
+fn fitting_count(image: &[u8]) -> Result<usize, ImageRefusal>
+    ensures refused { told result ≡ start_refusal image.now }
+    ensures count { IfOk result (λ n. n ≡ count_in image.now) }
+{
+    layout::count(image)
+        .filter(|count| *count <= layout::capacity(image))
+        .ok_or(ImageRefusal::NoRoom)
+}
+
 // Whether a book may be started in an image.
 pub fn check_start(image: &[u8]) -> Result<(), ImageRefusal>
     ensures { told result ≡ start_refusal image.now }
 {
-    if image.len() < layout::COUNT_BYTES {
-        return Err(ImageRefusal::NoRoom);
-    }
-    if layout::count(image) > layout::capacity(image) {
-        return Err(ImageRefusal::NoRoom);
-    }
+    fitting_count(image)?;
     Ok(())
 }
 
-// Whether the record at a place is legible and its account is in no earlier place.
-fn fit(image: &[u8], place: usize) -> bool
-    requires { place < capacity_of image.now }
-    ensures { Legible place image.now → result ≡ not (unfit place image.now) }
+// Whether the record at a place is illegible or its account is in an earlier place.
+fn unfit(image: &[u8], place: usize) -> bool
+    ensures { place < capacity_of image.now → Legible place image.now → result ≡ unfit place image.now }
 {
     match layout::record_at(image, place) {
-        None => false,
-        Some(record) => layout::place_of(image, place, record.account).is_none(),
+        None => true,
+        Some(record) => layout::place_of(image, place, record.account).is_some(),
+    }
+}
+
+// The first of so many records that is unfit.
+fn first_unfit(image: &[u8], count: usize) -> Option<usize>
+    ensures { count ≤ capacity_of image.now → result ≡ first_unfit count 0 image.now }
+{
+    (0..count).find(|place| unfit(image, *place))
+}
+
+// The count of an image that may be opened as a book.
+pub(crate) fn opened_count(image: &[u8]) -> Result<usize, ImageRefusal>
+    ensures refused { told result ≡ open_refusal image.now }
+    ensures count { IfOk result (λ n. n ≡ count_in image.now) }
+{
+    let count = fitting_count(image)?;
+    match first_unfit(image, count) {
+        None => Ok(count),
+        Some(place) => Err(ImageRefusal::UnfitRecord(place)),
     }
 }
 
@@ -43,11 +109,6 @@ fn fit(image: &[u8], place: usize) -> bool
 pub fn check_open(image: &[u8]) -> Result<(), ImageRefusal>
     ensures { told result ≡ open_refusal image.now }
 {
-    check_start(image)?;
-    for place in 0..layout::count(image) {
-        if !fit(image, place) {
-            return Err(ImageRefusal::UnfitRecord(place));
-        }
-    }
+    opened_count(image)?;
     Ok(())
 }

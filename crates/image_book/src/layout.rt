@@ -1,30 +1,63 @@
 // Where the count and the records stand in an image.
-ghost use Rattle.std.specs.Prelude.{◌≡◌, ◌+◌, ◌*◌, ◌<◌, ◌≤◌, length};
-ghost use Rattle.accounts.specs.Books.{find};
+ghost use Rattle.std.specs.Prelude.{◌≡◌, ◌+◌, ◌≤◌, ◌==◌, length, take, position};
 ghost use Rattle.record_codec.specs.Bytes.{written};
-ghost use Rattle.record_codec.specs.Codec.{decoded};
-ghost use Rattle.image_book.specs.Images.{count_in, capacity_of, start_of, slot, account_at, accounts_in};
+ghost use Rattle.image_book.specs.Images.{count_at, capacity_of, start_of, slots_in, record_at, account_in};
 
 use accounts::record::Record;
 use record_codec::codec::{RECORD_BYTES, decode};
-use record_codec::numbers::number;
 
-pub(crate) const COUNT_BYTES: usize = 4;
+const COUNT_BYTES: usize = 4;
 
 const MOST_RECORDS: usize = 4_096;
 
-// The whole records after the count, at most 4,096.
+// The count in the first four bytes, or nothing where there are fewer.
+pub(crate) fn count(image: &[u8]) -> Option<usize>
+    ensures { result ≡ count_at image.now }
+{
+    let bytes = image.first_chunk::<COUNT_BYTES>()?;
+    Some(u32::from_le_bytes(*bytes) as usize)
+}
+
+// The places for records: whole slots after the count, at most 4,096.
+fn slots(image: &[u8]) -> &[[u8; RECORD_BYTES]]
+    ensures { result.now ≡ slots_in image.now }
+{
+    let after = &image[COUNT_BYTES.min(image.len())..];
+    let (slots, _) = after.as_chunks::<RECORD_BYTES>();
+    &slots[..slots.len().min(MOST_RECORDS)]
+}
+
+// How many places there are.
 pub(crate) fn capacity(image: &[u8]) -> usize
     ensures { result ≡ capacity_of image.now }
 {
-    (image.len().saturating_sub(COUNT_BYTES) / RECORD_BYTES).min(MOST_RECORDS)
+    slots(image).len()
 }
 
-pub(crate) fn count(image: &[u8]) -> usize
-    requires { 4 ≤ length image.now }
-    ensures { result ≡ count_in image.now }
+// The record at a place, or nothing where the image has no such place or its bytes are those of no record in range.
+pub(crate) fn record_at(image: &[u8], place: usize) -> Option<Record>
+    ensures { result ≡ record_at image.now place }
 {
-    number(&image[0..4]) as usize
+    let slot = slots(image).get(place)?;
+    decode(slot)
+}
+
+// The place of an account among the first places, or nothing where they lack it.
+pub(crate) fn place_of(image: &[u8], end: usize, account: u64) -> Option<usize>
+    ensures { result ≡ position (λ s. account_in s == account) (take end (slots_in image.now)) }
+{
+    slots(image)
+        .iter()
+        .take(end)
+        .position(|slot| account_in(slot) == account)
+}
+
+// The account number that leads a slot.
+fn account_in(slot: &[u8; RECORD_BYTES]) -> u64
+    ensures { result ≡ account_in slot.now }
+{
+    let [a, b, c, d, e, f, g, h, ..] = *slot;
+    u64::from_le_bytes([a, b, c, d, e, f, g, h])
 }
 
 // The byte at which the record of a place begins.
@@ -33,37 +66,6 @@ pub(crate) fn start(place: usize) -> usize
     ensures { result ≡ start_of place }
 {
     COUNT_BYTES + RECORD_BYTES * place
-}
-
-// The record at a place, or nothing where its bytes are those of no record in range.
-pub(crate) fn record_at(image: &[u8], place: usize) -> Option<Record>
-    requires { place < capacity_of image.now }
-    ensures { result ≡ decoded (slot place image.now) }
-{
-    let at = start(place);
-    decode(&image[at..at + RECORD_BYTES])
-}
-
-// The account number at a place.
-pub(crate) fn account_at(image: &[u8], place: usize) -> u64
-    requires { place < capacity_of image.now }
-    ensures { result ≡ account_at image.now place }
-{
-    let at = start(place);
-    number(&image[at..at + 8])
-}
-
-// The place of an account among the first places, or nothing where they lack it.
-pub(crate) fn place_of(image: &[u8], end: usize, account: u64) -> Option<usize>
-    requires { end ≤ capacity_of image.now }
-    ensures { result ≡ find account (accounts_in end image.now) }
-{
-    for i in 0..end {
-        if account_at(image, i) == account {
-            return Some(i);
-        }
-    }
-    None
 }
 
 // Puts bytes over those of the image from a place on.

@@ -3,9 +3,15 @@ ghost use Rattle.std.specs.Prelude.{◌≡◌};
 ghost use Rattle.image_book.specs.Reading.{opened_count, opened_room, started, started_room, Reads};
 ghost use Rattle.image_book.specs.Holding.{ComesBack};
 
-use crate::checks::{check_open, check_start};
+use crate::checks::{check_start, opened_count};
 use crate::layout;
-use record_codec::numbers::four_bytes;
+
+// How many records a book has, and how many it has room for; none in an unfit image.
+#[derive(Clone, Copy, Default)]
+pub(crate) struct Extent {
+    pub(crate) count: usize,
+    pub(crate) room: usize,
+}
 
 // Writes a count of 0 into an image that is fit, and tells its room; an unfit image stays, with no room.
 pub(crate) fn begin(image: &mut [u8]) -> usize
@@ -17,19 +23,22 @@ pub(crate) fn begin(image: &mut [u8]) -> usize
         return 0;
     }
     let room = layout::capacity(image);
-    layout::put(image, 0, &four_bytes(0));
+    layout::put(image, 0, &0u32.to_le_bytes());
     room
 }
 
-// The count and the room of the book in an image; none in an unfit one.
-pub(crate) fn measure(image: &[u8]) -> (usize, usize)
-    ensures count { result.0 ≡ opened_count image.now }
-    ensures room { result.1 ≡ opened_room image.now }
-    ensures reads { Reads image.now result.0 result.1 }
-    ensures again { ComesBack image.now result.0 result.1 }
+// The count and the room of the book in an image.
+pub(crate) fn measure(image: &[u8]) -> Extent
+    ensures count { result.count ≡ opened_count image.now }
+    ensures room { result.room ≡ opened_room image.now }
+    ensures reads { Reads image.now result.count result.room }
+    ensures again { ComesBack image.now result.count result.room }
 {
-    if check_open(image).is_err() {
-        return (0, 0);
+    match opened_count(image) {
+        Ok(count) => Extent {
+            count,
+            room: layout::capacity(image),
+        },
+        Err(_) => Extent::default(),
     }
-    (layout::count(image), layout::capacity(image))
 }

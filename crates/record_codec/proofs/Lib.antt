@@ -1,3 +1,2 @@
-pub mod Worth
 pub mod Inverse
 pub mod Reading

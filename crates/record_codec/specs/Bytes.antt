@@ -1,15 +1,5 @@
--- Numbers as bytes.
-use Rattle.std.specs.Prelude.{ℕ, zero, suc, ◌+◌, ◌*◌, ◌/◌, ◌%◌, List, [], ◌∷◌, ◌++◌, length, take, drop}
-
--- a number in so many bytes, the lowest first
-unfoldable pub le : ℕ → ℕ → List ℕ
-le zero n = []
-le (suc width) n = n % 256 ∷ le width (n / 256)
-
--- what bytes are worth, the lowest first
-unfoldable pub worth : List ℕ → ℕ
-worth [] = 0
-worth (b ∷ bs) = b + 256 * worth bs
+-- Parts of bytes.
+use Rattle.std.specs.Prelude.{ℕ, ◌+◌, List, ◌++◌, length, take, drop}
 
 -- so many bytes from a place on
 abbrev pub part : ℕ → ℕ → List ℕ → List ℕ

@@ -2,5 +2,3 @@
 #![tactic(auto)]
 
 pub mod codec;
-pub mod marks;
-pub mod numbers;

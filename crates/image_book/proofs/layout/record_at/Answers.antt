@@ -1,10 +1,11 @@
-use Rattle.std.proofs.Common.{◌≡◌, ◌+◌, ◌-◌, take, drop, ap, ◌∙◌, arith}
-use Rattle.record_codec.specs.Codec.{decoded}
+use Rattle.std.proofs.Common.{sym, ◌∙◌}
+use Rattle.image_book.proofs.Slots.{slot_at, slot_past}
 use Rattle.image_book.proofs.layout.record_at.Goals as goal
 
 pub returns : goal.returns
 returns c =
-    let at = c.start-at.result in
-    let w : at + 36 - at ≡ 36 = omega arith in
-    c.decode.ensures
-    ∙ (ap (λ n. decoded (take n (drop at c.args.image.now))) w ∙ ap (λ n. decoded (take 36 (drop n c.args.image.now))) c.start-at.ensures)
+    let found = c.in_ok-slot.ensures.lookup in
+    c.decode.ensures ∙ slot_at c.args.image.now c.in_ok-slot.slot.now c.slots.result.now c.args.place c.slots.ensures found.3.0 found.1
+
+pub returns-in_err-slot : goal.returns-in_err-slot
+returns-in_err-slot c = c.from_residual.ensures ∙ sym (slot_past c.args.image.now c.slots.result.now c.args.place c.slots.ensures c.in_err-slot.ensures.lookup.3)

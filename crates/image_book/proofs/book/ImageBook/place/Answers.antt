@@ -1,9 +1,8 @@
-use Rattle.std.proofs.Common.{◌≡◌, is_some, sym, ap, ◌∙◌, arith}
+use Rattle.std.proofs.Common.{◌≡◌, is_some, ap, ◌∙◌}
 use Rattle.accounts.specs.Books.{accounts, find}
 use Rattle.accounts.proofs.Finding.{found_present}
-use Rattle.image_book.specs.Images.{accounts_in}
 use Rattle.image_book.specs.Holding.{records_of, Sound}
-use Rattle.image_book.proofs.Places.{accounts_held}
+use Rattle.image_book.proofs.Places.{found_held}
 use Rattle.image_book.proofs.Opening.{legible_opened}
 use Rattle.image_book.proofs.book.ImageBook.place.Goals as goal
 
@@ -14,7 +13,4 @@ returns c = record { found = there; test = λ s. ap is_some (there s) ∙ found_
     there s =
         let b = c.args.self.now in
         let l = legible_opened b.image.now b.count s.same_count in
-        let e : c.end.result ≡ b.count = omega (arith, l.1) in
-        c.place_of.ensures
-        ∙ (ap (λ n. find c.args.account (accounts_in n b.image.now)) e
-        ∙ ap (find c.args.account) (sym (accounts_held b.image.now b.count l.0)))
+        c.place_of.ensures ∙ found_held b.image.now b.count c.args.account l.0 l.1

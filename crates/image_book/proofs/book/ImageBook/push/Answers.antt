@@ -1,6 +1,7 @@
 use Rattle.std.proofs.Common.{◌≡◌, ◌+◌, ◌<◌, sym, refl, ap, ◌∙◌, subst, arith}
 use Rattle.accounts.proofs.Answering.{takes_parts}
-use Rattle.record_codec.specs.Bytes.{le, written}
+use Rattle.std.specs.Int.{w32, to_le_bytes}
+use Rattle.record_codec.specs.Bytes.{written}
 use Rattle.image_book.specs.Images.{start_of, held}
 use Rattle.image_book.specs.Reading.{Reads}
 use Rattle.image_book.specs.Holding.{records_of}
@@ -14,7 +15,7 @@ bytes c =
     let n = c.args.self.now.count in
     let e : c.put.new.image ≡ with_record n c.args.new bs =
     c.put.ensures ∙ (ap (λ a. written a c.encode.result bs) c.start-at.ensures ∙ ap (λ xs. written (start_of n) xs bs) c.encode.ensures.value) in
-    c.put-2.ensures ∙ (ap (λ xs. written 0 xs c.put.new.image) c.four_bytes.ensures ∙ ap (written 0 (le 4 (n + 1))) e)
+    c.put-2.ensures ∙ (ap (λ xs. written 0 xs c.put.new.image) c.to_le_bytes.ensures ∙ ap (written 0 (to_le_bytes w32 (n + 1))) e)
 
 pub returns : goal.returns
 returns c =
