@@ -1,9 +1,8 @@
 // An account book in a table of records that the caller lends.
 #![tactic(auto)]
 
-ghost use Rattle.std.specs.Prelude.{◌≡◌, ℕ, ◌<◌, min, true, List, [], ◌∷◌, ◌++◌, is_some, length, if◌then◌else◌, slice_set};
+ghost use Rattle.std.specs.Prelude.{◌≡◌, ℕ, ◌<◌, ◌≤◌, min, true, List, [], ◌∷◌, ◌++◌, is_some, length, if◌then◌else◌, slice_set};
 ghost use Rattle.accounts.specs.Books.{accounts, find, present, takes, added, suits, replaced, Left};
-ghost use Rattle.table_book.specs.Tables.{table_of, count_of, loan_of, records_of, room_of, contents_of, Sound, Added, Replaced};
 
 use accounts::book::AccountBook;
 use accounts::record::Record;
@@ -15,9 +14,12 @@ const MOST_RECORDS: usize = 4_096;
 pub struct TableBook<'a> {
     table: &'a mut [Record],
     count: usize,
+    ghost within: { count ≤ length table.now },
 }
 
 impl<'a> TableBook<'a> {
+    ghost use Rattle.table_book.specs.Tables.{table_of, count_of, loan_of, records_of, room_of, contents_of, Sound, Added, Replaced};
+
     // An empty book in a table; the table stays as it is.
     pub fn new(table: &'a mut [Record]) -> TableBook<'a>
         ensures empty { count_of result ≡ 0 }
@@ -39,7 +41,7 @@ impl<'a> TableBook<'a> {
     fn records(&self) -> &[Record]
         ensures { result.now ≡ records_of self.now }
     {
-        &self.table[..self.count.min(self.table.len())]
+        &self.table[..self.count]
     }
 
     fn place(&self, account: u64) -> Option<usize>
@@ -73,6 +75,8 @@ impl<'a> TableBook<'a> {
 }
 
 impl<'a> AccountBook for TableBook<'a> {
+    ghost use Rattle.table_book.specs.Tables.{table_of, count_of, loan_of, records_of, room_of, contents_of, Sound, Added, Replaced};
+
     ghost contents = { contents_of };
 
     ghost sound = { Sound };
