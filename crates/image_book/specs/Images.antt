@@ -40,10 +40,3 @@ held (suc n) bs = held n bs ++ option_to_list (decoded (slot n bs))
 -- the account number that leads the bytes of a record
 unfoldable pub account_in : List ℕ → ℕ
 account_in bytes = from_le_bytes w64 (take 8 bytes)
-
--- the account numbers as they stand in the first places
-abbrev pub account_at : List ℕ → ℕ → ℕ
-account_at bs place = account_in (slot place bs)
-
-abbrev pub accounts_in : ℕ → List ℕ → List ℕ
-accounts_in n bs = map (account_at bs) (range_with_len 0 n)

@@ -1,8 +1,7 @@
 // Where the count and the records stand in an image.
-ghost use Rattle.std.specs.Prelude.{◌≡◌, ◌+◌, ◌≤◌, min, length, take, ◌==◌, position};
-ghost use Rattle.accounts.specs.Books.{find};
+ghost use Rattle.std.specs.Prelude.{◌≡◌, ◌+◌, ◌≤◌, ◌==◌, length, take, position};
 ghost use Rattle.record_codec.specs.Bytes.{written};
-ghost use Rattle.image_book.specs.Images.{count_at, capacity_of, start_of, slots_in, record_at, account_in, accounts_in};
+ghost use Rattle.image_book.specs.Images.{count_at, capacity_of, start_of, slots_in, record_at, account_in};
 
 use accounts::record::Record;
 use record_codec::codec::{RECORD_BYTES, decode};
@@ -15,16 +14,16 @@ const MOST_RECORDS: usize = 4_096;
 pub(crate) fn count(image: &[u8]) -> Option<usize>
     ensures { result ≡ count_at image.now }
 {
-    let bytes = image.first_chunk::<4>()?;
+    let bytes = image.first_chunk::<COUNT_BYTES>()?;
     Some(u32::from_le_bytes(*bytes) as usize)
 }
 
 // The places for records: whole slots after the count, at most 4,096.
-fn slots(image: &[u8]) -> &[[u8; 36]]
+fn slots(image: &[u8]) -> &[[u8; RECORD_BYTES]]
     ensures { result.now ≡ slots_in image.now }
 {
     let after = &image[COUNT_BYTES.min(image.len())..];
-    let (slots, _) = after.as_chunks::<36>();
+    let (slots, _) = after.as_chunks::<RECORD_BYTES>();
     &slots[..slots.len().min(MOST_RECORDS)]
 }
 
@@ -54,7 +53,7 @@ pub(crate) fn place_of(image: &[u8], end: usize, account: u64) -> Option<usize>
 }
 
 // The account number that leads a slot.
-fn account_in(slot: &[u8; 36]) -> u64
+fn account_in(slot: &[u8; RECORD_BYTES]) -> u64
     ensures { result ≡ account_in slot.now }
 {
     let [a, b, c, d, e, f, g, h, ..] = *slot;

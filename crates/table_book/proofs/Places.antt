@@ -1,41 +1,23 @@
 -- The front of a table as the records of a book.
-use Rattle.std.proofs.Common.{◌≡◌, ℕ, zero, suc, ◌+◌, ◌<◌, ◌≤◌, min, true, cond, eqb, List, [], ◌∷◌, length, get_or, take, drop, set, Some, None, refl, ap, ◌∙◌, arith}
-use Rattle.std.proofs.lemmas.List.{length-set, length-take, take_more_set, get_or-take}
-use Rattle.std.proofs.lemmas.Bool.{eq-eqb, ne_eqb, cond-true, cond-false}
-use Rattle.std.proofs.lemmas.Option.{slice_get-get_or, slice_get_past}
-use Rattle.std.specs.List.{slice_get}
+use Rattle.std.proofs.Common.{◌≡◌, ℕ, zero, suc, ◌+◌, ◌<◌, min, true, cond, eqb, List, [], ◌∷◌, length, take, set, Some, refl, ap, ◌∙◌}
+use Rattle.std.proofs.lemmas.Iterator.Adapters.{position_from-zero}
+use Rattle.std.proofs.lemmas.List.{length-set, length-take, take_more_set}
+use Rattle.std.specs.List.{position, position_from}
 use Rattle.accounts.specs.declared.record.Record.{Record}
-use Rattle.accounts.specs.Books.{accounts, find_from, Proper, takes, suits}
-use Rattle.accounts.proofs.Finding.{find_step, find_end}
-use Rattle.table_book.specs.Tables.{blank}
+use Rattle.accounts.specs.Books.{accounts, find_from, find, Proper, takes, suits}
 use Rattle.accounts.proofs.Keeping.{proper_add, proper_replace}
+
+found_from : (a i : ℕ) (rs : List Record) → position_from (λ r. eqb r.account a) i rs ≡ find_from i a (accounts rs)
+found_from a i [] = refl
+found_from a i (r ∷ rs) = ap (cond (eqb r.account a) (Some i)) (found_from a (i + 1) rs)
+
+-- the first record of an account is where a search finds it
+pub find_position : (a : ℕ) (rs : List Record) → position (λ r. eqb r.account a) rs ≡ find a (accounts rs)
+find_position a rs = position_from-zero (λ r. eqb r.account a) rs ∙ found_from a 0 rs
 
 module _ (table : List Record) (n : ℕ) where
   pub records_length : length (take n table) ≡ min n (length table)
   records_length = length-take n table
-
-  pub record_at : (i : ℕ) → i < min n (length table) → slice_get (take n table) i ≡ Some (get_or table i blank)
-  record_at i h =
-      let m = records_length in
-      slice_get-get_or (take n table) i blank (omega arith) ∙ ap Some (get_or-take n table i blank (omega arith))
-
-  pub record_past : (i : ℕ) → min n (length table) ≤ i → slice_get (take n table) i ≡ None
-  record_past i h = let m = records_length in slice_get_past (take n table) i (omega arith)
-
-  next : (a i : ℕ) → i < min n (length table) → find_from i a (drop i (accounts (take n table))) ≡ cond (eqb (get_or table i blank).account a) (Some i) (find_from (i + 1) a (drop (i + 1) (accounts (take n table))))
-  next a i h =
-      let m = records_length in
-      find_step a i (take n table) blank (omega arith)
-      ∙ ap (λ x. cond (eqb x.account a) (Some i) (find_from (i + 1) a (drop (i + 1) (accounts (take n table))))) (get_or-take n table i blank (omega arith))
-
-  pub found_here : (a i : ℕ) → i < min n (length table) → (get_or table i blank).account ≡ a → find_from i a (drop i (accounts (take n table))) ≡ Some i
-  found_here a i h e = next a i h ∙ cond-true (eqb (get_or table i blank).account a) (Some i) (find_from (i + 1) a (drop (i + 1) (accounts (take n table)))) (eq-eqb (get_or table i blank).account a e)
-
-  pub found_later : (a i : ℕ) → i < min n (length table) → ((get_or table i blank).account ≡ a → ⊥) → find_from i a (drop i (accounts (take n table))) ≡ find_from (i + 1) a (drop (i + 1) (accounts (take n table)))
-  found_later a i h e = next a i h ∙ cond-false (eqb (get_or table i blank).account a) (Some i) (find_from (i + 1) a (drop (i + 1) (accounts (take n table)))) (ne_eqb (get_or table i blank).account a e)
-
-  pub found_nowhere : (a i : ℕ) → min n (length table) ≤ i → find_from i a (drop i (accounts (take n table))) ≡ None
-  found_nowhere a i h = let m = records_length in find_end a i (take n table) (omega arith)
 
   pub proper_added : (r : Record) → n < length table → Proper (take n table) (min 4096 (length table)) → takes (take n table) (min 4096 (length table)) r ≡ true → Proper (take (n + 1) (set table n r)) (min 4096 (length (set table n r)))
   proper_added r h p t = simp (length-set, take_more_set table n r h) (proper_add (take n table) (min 4096 (length table)) r p t)

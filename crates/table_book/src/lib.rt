@@ -1,10 +1,8 @@
 // An account book in a table of records that the caller lends.
 #![tactic(auto)]
 
-ghost use Rattle.std.specs.Prelude.{◌≡◌, ℕ, ◌<◌, min, true, List, [], ◌∷◌, ◌++◌, length, is_some, if◌then◌else◌, slice_index_or, slice_set};
-ghost use Rattle.std.specs.List.{slice_get};
+ghost use Rattle.std.specs.Prelude.{◌≡◌, ℕ, ◌<◌, ◌≤◌, min, true, List, [], ◌∷◌, ◌++◌, is_some, length, if◌then◌else◌, slice_set};
 ghost use Rattle.accounts.specs.Books.{accounts, find, present, takes, added, suits, replaced, Left};
-ghost use Rattle.table_book.specs.Tables.{blank, table_of, count_of, loan_of, records_of, room_of, contents_of, Sound, Added, Replaced};
 
 use accounts::book::AccountBook;
 use accounts::record::Record;
@@ -16,9 +14,12 @@ const MOST_RECORDS: usize = 4_096;
 pub struct TableBook<'a> {
     table: &'a mut [Record],
     count: usize,
+    ghost within: { count ≤ length table.now },
 }
 
 impl<'a> TableBook<'a> {
+    ghost use Rattle.table_book.specs.Tables.{table_of, count_of, loan_of, records_of, room_of, contents_of, Sound, Added, Replaced};
+
     // An empty book in a table; the table stays as it is.
     pub fn new(table: &'a mut [Record]) -> TableBook<'a>
         ensures empty { count_of result ≡ 0 }
@@ -36,40 +37,20 @@ impl<'a> TableBook<'a> {
         self.table.len().min(MOST_RECORDS)
     }
 
-    // How many places hold records; a count past the table's end counts no further.
-    fn end(&self) -> usize
-        ensures { result ≡ min (count_of self.now) (length (table_of self.now)) }
+    // The places that hold records.
+    fn records(&self) -> &[Record]
+        ensures { result.now ≡ records_of self.now }
     {
-        self.count.min(self.table.len())
-    }
-
-    fn record(&self, place: usize) -> Option<Record>
-        ensures { result ≡ slice_get (records_of self.now) place }
-    {
-        if place >= self.end() {
-            return None;
-        }
-        Some(self.table[place])
-    }
-
-    fn account(&self, place: usize) -> u64
-        requires { place < length (table_of self.now) }
-        ensures { result ≡ (slice_index_or (table_of self.now) place blank).account }
-    {
-        let record = self.table[place];
-        record.account
+        &self.table[..self.count]
     }
 
     fn place(&self, account: u64) -> Option<usize>
         ensures found { result ≡ find account (accounts (records_of self.now)) }
         ensures test { is_some result ≡ present account (accounts (records_of self.now)) }
     {
-        for i in 0..self.end() {
-            if self.account(i) == account {
-                return Some(i);
-            }
-        }
-        None
+        self.records()
+            .iter()
+            .position(|record| record.account == account)
     }
 
     // Puts a record after the last.
@@ -94,6 +75,8 @@ impl<'a> TableBook<'a> {
 }
 
 impl<'a> AccountBook for TableBook<'a> {
+    ghost use Rattle.table_book.specs.Tables.{table_of, count_of, loan_of, records_of, room_of, contents_of, Sound, Added, Replaced};
+
     ghost contents = { contents_of };
 
     ghost sound = { Sound };
@@ -109,7 +92,7 @@ impl<'a> AccountBook for TableBook<'a> {
     }
 
     fn get(&self, place: usize) -> Option<Record> {
-        self.record(place)
+        self.records().get(place).copied()
     }
 
     fn search(&self, account: u64) -> Option<usize> {
