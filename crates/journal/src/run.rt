@@ -21,7 +21,6 @@ fn perform_all<M: CreditMethod, B: AccountBook>(
     said: &mut Vec<Result<Done, Refusal>>,
 )
     requires empty { said.old.items ≡ [] }
-    requires uncounted { vec_len said.old ≡ 0 }
     requires reserved { length calls.now ≤ vec_capacity said.old }
     ensures kept { B.sound book.old → Kept (B.sound book.new) (B.contents book.new) (B.contents book.old) }
     ensures state { B.sound book.old → view ledger.new (B.contents book.new) ≡ after M.worth (view ledger.old (B.contents book.old)) calls.now }

@@ -31,16 +31,12 @@ loop-call-preserved g c =
       omega (arith, c.push_reserved.ensures.capacity, c.loop-call.invariant.2),
     )
 
-pub returns : goal.returns
-returns g c =
-    let b = g.B.AccountBook in
-    let worth = g.M.CreditMethod.worth in
-    let calls = c.args.calls.now in
-    let i = c.loop-call.call-index in
-    let here = view c.loop-call.ledger (b.contents c.loop-call.book) in
-    let end = c.loop-call-test.false in
-    record {
-      kept = λ s. (c.loop-call.invariant.0 s).0;
-      state = λ s. sym (after_all worth calls i here end) ∙ (c.loop-call.invariant.0 s).1;
-      answered = λ s. sym (answers_all worth calls i here (vec_items c.loop-call.said) end) ∙ (c.loop-call.invariant.0 s).2;
-    }
+pub returns-clause-state : goal.returns-clause-state
+returns-clause-state g c s =
+    let here = view c.loop-call.ledger (g.B.AccountBook.contents c.loop-call.book) in
+    sym (after_all g.M.CreditMethod.worth c.args.calls.now c.loop-call.call-index here c.loop-call-test.false) ∙ (c.loop-call.invariant.0 s).1
+
+pub returns-clause-answered : goal.returns-clause-answered
+returns-clause-answered g c s =
+    let here = view c.loop-call.ledger (g.B.AccountBook.contents c.loop-call.book) in
+    sym (answers_all g.M.CreditMethod.worth c.args.calls.now c.loop-call.call-index here (vec_items c.loop-call.said) c.loop-call-test.false) ∙ (c.loop-call.invariant.0 s).2
