@@ -7,19 +7,12 @@ ghost use Rattle.ledger.specs.Steps.{posting};
 
 use ledger::call::Posting;
 
-// That the twelve cases hold, and one of them as a value.
-fn shown()
-    ensures cases { WorkedPostings }
-    ensures value { posting (rated 109460) (member 1000 681) 20000 ≡ record { applied = 7454; used = 681; net = 745; fee = 6709 } }
-{}
-
 // The twelve cases hold. The answer is the posting of one of them: a member with a savings rate of 10 percent who holds
 // 681 kilowatt-hours at 10.946 cents is billed 200 dollars.
 pub fn worked_postings() -> Posting
     ensures cases { WorkedPostings }
     ensures value { result ≡ posting (rated 109460) (member 1000 681) 20000 }
 {
-    shown();
     Posting {
         applied: 7_454,
         used: 681,

@@ -1,8 +1,7 @@
 // Performing any list of calls.
-ghost use Rattle.std.specs.Prelude.{◌≡◌, ◌≤◌, [], length, vec_len, vec_capacity};
+ghost use Rattle.std.specs.Prelude.{length};
 ghost use Rattle.ledger.specs.Steps.{judge_open, opened};
 ghost use Rattle.ledger.specs.Views.{Kept, view};
-ghost use Rattle.journal.specs.Laws.{after, answers};
 ghost use Rattle.journal.specs.Outcomes.{RunOutcome};
 
 use super::refusal::RunRefusal;
@@ -12,26 +11,6 @@ use crediting::method::CreditMethod;
 use ledger::call::{Call, Done, Refusal};
 use ledger::ledger::Ledger;
 use std::alloc::Global;
-
-// Performs calls one by one, each on what the ones before it left, and notes their answers.
-fn perform_all<M: CreditMethod, B: AccountBook>(
-    ledger: &mut Ledger,
-    book: &mut B,
-    calls: &[Call<M>],
-    said: &mut Vec<Result<Done, Refusal>>,
-)
-    requires empty { said.old.items ≡ [] }
-    requires uncounted { vec_len said.old ≡ 0 }
-    requires reserved { length calls.now ≤ vec_capacity said.old }
-    ensures kept { B.sound book.old → Kept (B.sound book.new) (B.contents book.new) (B.contents book.old) }
-    ensures state { B.sound book.old → view ledger.new (B.contents book.new) ≡ after M.worth (view ledger.old (B.contents book.old)) calls.now }
-    ensures answered { B.sound book.old → said.new.items ≡ answers M.worth (view ledger.old (B.contents book.old)) calls.now }
-{
-    for call in calls {
-        let answer = ledger.perform(book, call);
-        said.push_reserved(answer);
-    }
-}
 
 // Opens a ledger on an empty book and performs any list of calls, performed or declined; answers each call in order.
 pub fn run<M: CreditMethod, B: AccountBook>(
@@ -46,6 +25,8 @@ pub fn run<M: CreditMethod, B: AccountBook>(
 {
     let mut said = Vec::with_capacity(heap, calls.len())?;
     ledger.open(project, book)?;
-    perform_all(ledger, book, calls, &mut said);
+    for call in calls {
+        said.push_reserved(ledger.perform(book, call));
+    }
     Ok(said)
 }

@@ -7,4 +7,3 @@ pub mod Sharing
 pub mod Replacing
 pub mod Entering
 pub mod Requests
-pub mod Posting

@@ -1,7 +1,6 @@
 -- A loop that replaces each record of a book by what a function makes of it.
-use Rattle.std.proofs.Common.{◌≡◌, ℕ, zero, suc, ◌+◌, ◌<◌, ◌≤◌, Bool, List, [], ◌∷◌, ◌++◌, map, length, take, drop, set, Some, None, Result, sym, refl, ap, ◌∙◌, append-nil, arith}
+use Rattle.std.proofs.Common.{◌≡◌, ℕ, zero, suc, ◌+◌, ◌<◌, Bool, List, [], ◌∷◌, ◌++◌, map, length, take, drop, set, Some, None, Result, sym, refl, ap, ◌∙◌, arith}
 use Rattle.std.proofs.lemmas.List.Edits.{map_over_more}
-use Rattle.std.proofs.lemmas.List.{take_all, drop_all}
 use Rattle.std.proofs.lemmas.Option.{get_or_from_slice_get, slice_get_within}
 use Rattle.std.proofs.lemmas.Bool.{cond-true}
 use Rattle.std.specs.List.{slice_get}
@@ -73,6 +72,3 @@ module _ (f : Record → Record) where
       let at = sym (nth_over rs i) ∙ sym (ap (λ zs. slice_get zs i) h.list) ∙ e in
       let taken = says h.stays ∙ ap (suits ys i) is ∙ suits_same ys i (f r) r e (sym (k.whose r)) (k.ranged i r at x.ranged) in
       left_on h (left_as (leaves h.stays) (cond-true answer (set ys i new) ys taken ∙ ap (set ys i) is ∙ set_over rs ys i r h.list e at))
-
-  pub over_all : (rs : List Record) (i : ℕ) → length rs ≤ i → over rs i ≡ map f rs
-  over_all rs i h = rw (take_all i rs h, drop_all i rs h, append-nil (map f rs)) refl

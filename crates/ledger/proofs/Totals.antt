@@ -1,7 +1,7 @@
 -- Sums over lists.
 use Rattle.std.proofs.Common.{◌≡◌, ℕ, ◌+◌, ◌≤◌, Bool, cond, List, [], ◌∷◌, ◌++◌, map, length, sum_by, sym, refl, mul-add, arith}
 use Rattle.std.proofs.lemmas.List.Recursion.{is_sum_by}
-use Rattle.std.proofs.lemmas.Bool.{cond_both}
+use Rattle.std.proofs.lemmas.List.Sums.{count_by-le-length}
 use Rattle.ledger.specs.Rules.{share}
 use Rattle.ledger.specs.Sums.{total}
 
@@ -27,10 +27,7 @@ total_nothing (x ∷ xs) = let ih = total_nothing xs in omega arith
 
 -- no more elements pass a test than there are
 pub count_within : {X : Type 0} (test : X → Bool) (xs : List X) → total (λ x. cond (test x) 1 0) xs ≤ length xs
-count_within test [] = omega arith
-count_within test (x ∷ xs) =
-    let ih = count_within test xs in
-    cond_both (test x) 1 0 (λ n. n + total (λ y. cond (test y) 1 0) xs ≤ length (x ∷ xs)) (λ _. omega arith) (λ _. omega arith)
+count_within test xs = omega (arith, sum_is_total (λ x. cond (test x) 1 0) xs, count_by-le-length test xs)
 
 -- shares rounded down are together at most the share of the percentages together
 pub shares_within : {X : Type 0} (units : ℕ) (f : X → ℕ) (xs : List X) → total (λ x. share units (f x)) xs ≤ share units (total f xs)

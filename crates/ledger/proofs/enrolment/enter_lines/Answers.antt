@@ -1,5 +1,5 @@
 use Rattle.std.proofs.Common.{◌+◌, ◌≤◌, ◌∷◌, length, get_or, drop, sym, refl, ap, ◌∙◌, subst, arith}
-use Rattle.std.proofs.lemmas.List.{at_drop_more, at_drop_all}
+use Rattle.std.proofs.lemmas.List.{at_drop_more}
 use Rattle.ledger.specs.Lines.{enter_all, joins, new_accounts}
 use Rattle.ledger.specs.Records.{record_of}
 use Rattle.ledger.proofs.Entering.{every_at, enter_fits}
@@ -25,9 +25,3 @@ loop-line-preserved g c s k fits =
       ap (λ xs. enter_all xs left) e.list ∙ sym (at_drop_more (enter_all rs) ls i zero_line taken) ∙ h.1,
       subst (λ xs. length xs + new_accounts xs left ≤ (b.contents c.enter_line.new.book).room) (sym e.list) (omega (arith, e.same_room, enter_fits rs l left (b.contents c.loop-line.book).room o refl now-fits)),
     )
-
-pub returns : goal.returns
-returns g c s k fits =
-    let b = g.B.AccountBook in
-    let h = c.loop-line.invariant s k fits in
-    left_as h.0 (sym (at_drop_all (enter_all (b.contents c.loop-line.book).records) c.args.lines.now c.loop-line.line-index c.loop-line-test.false) ∙ h.1)

@@ -1,7 +1,7 @@
 use Rattle.std.proofs.Common.{◌+◌, ap, ◌∙◌, sym, subst, arith}
 use Rattle.std.specs.List.{slice_get}
 use Rattle.accounts.specs.Books.{Left}
-use Rattle.ledger.proofs.Replacing.{left_as, replace_more, over, nth_over, over_all, nth_below}
+use Rattle.ledger.proofs.Replacing.{replace_more, over, nth_over, nth_below}
 use Rattle.ledger.proofs.entries.replace_each.Goals as goal
 use Rattle.ledger.proofs.entries.replace_each.Goals.{in-Some, in_default}
 
@@ -18,8 +18,3 @@ loop-place-preserved g c =
           let h = c.loop-place.invariant s f k in
           absurd (nth_below rs i (omega (arith, c.count-place-end.ensures s, c.loop-place-test.true)) (w.in_default.ensures.told h.stays ∙ ap (λ zs. slice_get zs i) h.list ∙ nth_over f rs i))
     ]
-
-pub returns : goal.returns
-returns g c s f k =
-    let rs = (g.B.AccountBook.contents c.args.book.now).records in
-    left_as (c.loop-place.invariant s f k) (over_all f rs c.loop-place.place (omega (arith, c.count-place-end.ensures s, c.loop-place-test.false)))

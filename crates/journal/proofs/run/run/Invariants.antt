@@ -1,7 +1,7 @@
 use Rattle.std.proofs.Common.{◌≡◌, ◌≤◌, ◌++◌, length, drop, vec_items, vec_len, vec_capacity}
 use Rattle.ledger.specs.Views.{Kept, view}
 use Rattle.journal.specs.Laws.{after, answers}
-use Rattle.journal.proofs.run.perform_all.Given as goal
+use Rattle.journal.proofs.run.run.Given as goal
 
 -- what the calls left come to, from here, is what all calls come to from the start
 abbrev pub invariant-loop-call : goal.invariant-loop-call
