@@ -1,13 +1,15 @@
 // Posts a month: reads rates and readings, and prints what each account is credited, with totals.
 #![tactic(auto)]
 
+use amounts::Dollars;
 use anyhow::bail;
-use cabinet_month::dollars::Dollars;
-use cabinet_month::entry::{Entry, Fault, Mark, Reading, read_entry};
-use cabinet_month::posting::{Posting, Totals, post, total};
+use cabinet_month::entry::{Entry, Mark, Reading, read_entry};
+use cabinet_month::posting::{Figures, Posting, post, total};
 use crediting::method::CreditMethod;
 use crediting::value_stack::ValueStack;
 use crediting::volumetric::Volumetric;
+use std::alloc::Global;
+use std::fmt::Display;
 
 // The lines of a month's file: a rate for each class, and the readings by their units.
 #[derive(Drop)]
@@ -18,13 +20,21 @@ struct Month {
 }
 
 impl Month {
+    fn new(heap: Global) -> Month {
+        Month {
+            rates: [1; 16],
+            cents: Vec::new(heap),
+            kilowatt_hours: Vec::new(heap),
+        }
+    }
+
     fn note(&mut self, entry: Entry) -> anyhow::Result<()> {
         match entry {
             // a line's class is 1 to 16, so that its place is there
             Entry::Rate { class, rate } => {
                 let place = usize::from(class.saturating_sub(1));
-                if place < self.rates.len() {
-                    self.rates[place] = rate;
+                if let Some(of_class) = self.rates.get_mut(place) {
+                    *of_class = rate;
                 }
             }
             Entry::Reading(reading) => match reading.mark {
@@ -36,51 +46,37 @@ impl Month {
     }
 }
 
-// What should stand in the field that a line gets wrong.
-fn wanted(fault: Fault) -> &'static str {
-    match fault {
-        Fault::Mark => "R, C or K as the first field",
-        Fault::Account => "an account number from 1 to 99999999999",
-        Fault::Class => "a service class from 1 to 16",
-        Fault::Rate => "a rate in ten-thousandths of a cent, alone at the end",
-        Fault::Units => "units from 0 to 1000000000000",
-        Fault::Bill => "a bill of 0 to 1000000000 cents, alone at the end",
-    }
-}
-
 fn read_month(rt: &HostRuntime) -> anyhow::Result<Month> {
     let heap = rt.alloc();
-    let mut month = Month {
-        rates: [1; 16],
-        cents: Vec::new(heap),
-        kilowatt_hours: Vec::new(heap),
-    };
-    let mut number: u64 = 0;
-    for line in rt.lines(heap) {
+    let mut month = Month::new(heap);
+    for (number, line) in (1u64..).zip(rt.lines(heap)) {
         let line = line?;
-        number = number.saturating_add(1);
         match read_entry(line.as_bytes()) {
             Ok(entry) => month.note(entry)?,
-            Err(fault) => {
-                let wanted = wanted(fault);
-                bail!("line {number}: expected {wanted}");
-            }
+            Err(fault) => bail!("line {number}: expected {fault}"),
         }
     }
     Ok(month)
 }
 
-fn row(rt: &HostRuntime, name: &str, sums: Totals) -> anyhow::Result<()> {
+fn row<N: Display + Drop>(
+    rt: &HostRuntime,
+    name: impl Display + Drop,
+    figures: Figures<N>,
+) -> anyhow::Result<()>
+where
+    u128: From<N>,
+{
     let heap = rt.alloc();
-    let Totals {
+    let Figures {
         units,
         worth,
         applied,
         used,
         left,
-    } = sums;
-    let worth = Dollars(worth).to_string(heap)?;
-    let applied = Dollars(applied).to_string(heap)?;
+    } = figures;
+    let worth = Dollars::from(u128::from(worth)).to_string(heap)?;
+    let applied = Dollars::from(u128::from(applied)).to_string(heap)?;
     println!(rt; "{name:<11} {units:>14} {worth:>14} {applied:>14} {used:>14} {left:>14}")?;
     Ok(())
 }
@@ -94,7 +90,7 @@ fn table<M: CreditMethod>(
 ) -> anyhow::Result<()> {
     let heap = rt.alloc();
     let mut postings: Vec<Posting> = Vec::new(heap);
-    let mark = char::from(M::letter());
+    let mark = char::from(M::MARK);
     println!(rt; "{mark}: units are {unit}; worth and applied credit in dollars")?;
     println!(rt;
         "{:<11} {:>14} {:>14} {:>14} {:>14} {:>14}",
@@ -102,8 +98,7 @@ fn table<M: CreditMethod>(
     )?;
     for reading in readings {
         let posting = post(method, reading.class, reading.units, reading.bill);
-        let account = reading.account.to_string(heap)?;
-        row(rt, &account, total(&[posting]))?;
+        row(rt, reading.account, posting)?;
         postings.push(posting)?;
     }
     row(rt, "TOTAL", total(&postings))

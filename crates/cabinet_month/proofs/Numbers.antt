@@ -1,15 +1,17 @@
 -- Numbers that digits gather.
-use Rattle.std.proofs.Common.{◌≡◌, ℕ, ◌+◌, ◌-◌, ◌*◌, ◌<◌, ◌≤◌, true, false, leb, List, [], ◌∷◌, length, get_or, drop, Some, None, refl, arith}
+use Rattle.std.proofs.Common.{◌≡◌, ℕ, ◌+◌, ◌-◌, ◌*◌, ◌<◌, ◌≤◌, true, false, leb, List, [], ◌∷◌, length, get_or, drop, Some, None, refl, inl, arith}
 use Rattle.std.proofs.lemmas.List.{drop_all, drop_more}
-use Rattle.std.proofs.lemmas.Bool.{cond_both, cond-false, cond-true, le-leb, lt-leb}
-use Rattle.cabinet_month.specs.Fields.{at_most, gathered, is_digit, up_to}
+use Rattle.std.proofs.lemmas.Bool.{cond_both, cond-false, lt-leb}
+use Rattle.std.proofs.lemmas.Bool.Decides.{nat_tests}
+use Rattle.std.specs.Char.{is_ascii_digit, IsDigitOf, NotDecimalDigitIn}
+use Rattle.cabinet_month.specs.Fields.{at_most, gathered, up_to}
 
 -- what follows a number above the limit does not bring it back
-pub over : (hi n : ℕ) (bs : List ℕ) → hi < n → at_most hi (gathered n bs) ≡ None
+over : (hi n : ℕ) (bs : List ℕ) → hi < n → at_most hi (gathered n bs) ≡ None
 unfolding gathered
 over hi n [] h = cond-false (leb n hi) (Some n) None (lt-leb n hi h)
 over hi n (b ∷ bs) h =
-    cond_both (is_digit b) (gathered (n * 10 + (b - 48)) bs) None (λ o. at_most hi o ≡ None) (λ _. over hi (n * 10 + (b - 48)) bs (omega arith)) (λ _. refl)
+    cond_both (is_ascii_digit b) (gathered (n * 10 + (b - 48)) bs) None (λ o. at_most hi o ≡ None) (λ _. over hi (n * 10 + (b - 48)) bs (omega arith)) (λ _. refl)
 
 -- a field with a byte in it
 pub some : (hi : ℕ) (bs : List ℕ) → 0 < length bs → at_most hi (gathered 0 bs) ≡ up_to hi bs
@@ -23,15 +25,34 @@ unfolding up_to
 none hi [] h = refl
 none hi (b ∷ bs) h = absurd (omega arith)
 
--- the next byte, and the end
-pub digit_next : (n i : ℕ) (bs : List ℕ) → i < length bs → is_digit (get_or bs i 0) ≡ true → gathered n (drop i bs) ≡ gathered (n * 10 + (get_or bs i 0 - 48)) (drop (i + 1) bs)
-unfolding gathered
-digit_next n i bs h d = rw (drop_more bs i 0 h) (cond-true _ _ _ d)
+-- what `to_digit` tells of a byte
+digit : (b d : ℕ) → IsDigitOf b d → d < 10 → (is_ascii_digit b ≡ true) × (b - 48 ≡ d)
+digit b d is small = grind (arith, nat_tests)
 
-pub other_next : (n i : ℕ) (bs : List ℕ) → i < length bs → is_digit (get_or bs i 0) ≡ false → gathered n (drop i bs) ≡ None
-unfolding gathered
-other_next n i bs h d = rw (drop_more bs i 0 h) (cond-false _ _ _ d)
+other : (b : ℕ) → NotDecimalDigitIn 10 b → is_ascii_digit b ≡ false
+other b is = grind (arith, nat_tests)
 
-pub ended : (hi n i : ℕ) (bs : List ℕ) → length bs ≤ i → n ≤ hi → at_most hi (gathered n (drop i bs)) ≡ Some n
-unfolding gathered
-ended hi n i bs h small = rw (drop_all i bs h) (cond-true (leb n hi) (Some n) None (le-leb n hi small))
+module _ (n i : ℕ) (bs : List ℕ) where
+  -- the next byte
+  pub digit_next : (d : ℕ) → i < length bs → IsDigitOf (get_or bs i 0) d → d < 10 → gathered n (drop i bs) ≡ gathered (n * 10 + d) (drop (i + 1) bs)
+  unfolding gathered
+  digit_next d h is small =
+      let e = digit (get_or bs i 0) d is small in
+      rw (drop_more bs i 0 h, e.0, e.1) refl
+
+  pub other_next : i < length bs → NotDecimalDigitIn 10 (get_or bs i 0) → gathered n (drop i bs) ≡ None
+  unfolding gathered
+  other_next h is = rw (drop_more bs i 0 h) (cond-false _ _ _ (other _ is))
+
+  -- a digit that brings the number past the limit
+  pub past : (hi : ℕ) → i < length bs → 48 ≤ get_or bs i 0 → get_or bs i 0 ≤ 57 → hi < n * 10 + (get_or bs i 0 - 48) → at_most hi (gathered n (drop i bs)) ≡ None
+  past hi h low high large =
+      let is : 48 + (get_or bs i 0 - 48) ≡ get_or bs i 0 = omega arith in
+      rw (digit_next (get_or bs i 0 - 48) h (inl ((low, high), is)) (omega arith)) (over hi (n * 10 + (get_or bs i 0 - 48)) (drop (i + 1) bs) large)
+
+  -- the end
+  pub ended : (hi : ℕ) → length bs ≤ i → at_most hi (gathered n (drop i bs)) ≡ at_most hi (Some n)
+  unfolding gathered
+  ended hi h = rw (drop_all i bs h) refl
+
+pub ruleset gathers = (some, none, digit_next, other_next, past, ended)

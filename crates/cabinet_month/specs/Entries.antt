@@ -1,5 +1,5 @@
 -- What a line of a month's file says.
-use Rattle.std.specs.Prelude.{ℕ, Bool, cond, ◌&&◌, List, length, Some, None, Ok, Err, Option, Result, ◌==◌, slice_index}
+use Rattle.std.specs.Prelude.{ℕ, Bool, cond, ◌&&◌, List, length, codes, Some, None, Ok, Err, Option, Result, ◌==◌, slice_index}
 use Rattle.cabinet_month.specs.declared.entry.Entry.{Entry}
 use Rattle.cabinet_month.specs.declared.entry.Entry.TheVariants.{Rate as a_rate, Reading as a_reading}
 use Rattle.cabinet_month.specs.declared.entry.Mark.{Mark}
@@ -12,6 +12,15 @@ use Rattle.cabinet_month.specs.Fields.{after_field, first_field, number_from}
 abbrev pub needed : Option ℕ → Fault → (ℕ → Result Entry Fault) → Result Entry Fault
 needed None fault rest = Err fault
 needed (Some n) fault rest = rest n
+
+-- What should stand in the field that a line gets wrong.
+abbrev pub wanted : Fault → List ℕ
+wanted mark_fault = codes "R, C or K as the first field"
+wanted Account = codes "an account number from 1 to 99999999999"
+wanted Class = codes "a service class from 1 to 16"
+wanted Rate = codes "a rate in ten-thousandths of a cent, alone at the end"
+wanted Units = codes "units from 0 to 1000000000000"
+wanted Bill = codes "a bill of 0 to 1000000000 cents, alone at the end"
 
 -- A class and its rate.
 abbrev pub rate_of : List ℕ → Result Entry Fault

@@ -1,25 +1,23 @@
 -- The fields of a line, and the numbers that they write.
-use Rattle.std.specs.Prelude.{ℕ, ◌+◌, ◌-◌, ◌*◌, min, Bool, cond, not, ◌&&◌, List, [], ◌∷◌, length, take, drop, Some, None, Option, ◌==◌, nat_le}
-use Rattle.std.specs.List.{prefix_len}
+use Rattle.std.specs.Prelude.{ℕ, ◌+◌, ◌-◌, ◌*◌, Bool, cond, List, [], ◌∷◌, Some, None, Option, ◌==◌, nat_le}
+use Rattle.std.specs.Char.{is_ascii_digit}
+use Rattle.std.specs.List.{after_first, before_first}
+
+abbrev pub is_space : ℕ → Bool
+is_space b = b == 32
 
 -- A field goes up to the first space, or to the line's end.
-abbrev pub no_space : ℕ → Bool
-no_space b = not (b == 32)
-
 abbrev pub first_field : List ℕ → List ℕ
-first_field bs = take (prefix_len no_space bs) bs
+first_field = before_first is_space
 
 -- The rest of the line stands behind that space.
 abbrev pub after_field : List ℕ → List ℕ
-after_field bs = drop (min (length bs) (prefix_len no_space bs + 1)) bs
-
-abbrev pub is_digit : ℕ → Bool
-is_digit b = nat_le 48 b && nat_le b 57
+after_field = after_first is_space
 
 -- Digits behind a number so far: ten times that number plus the next digit, until none is left.
 unfoldable pub gathered : ℕ → List ℕ → Option ℕ
 gathered n [] = Some n
-gathered n (b ∷ bs) = cond (is_digit b) (gathered (n * 10 + (b - 48)) bs) None
+gathered n (b ∷ bs) = cond (is_ascii_digit b) (gathered (n * 10 + (b - 48)) bs) None
 
 -- A number in its range, or nothing.
 abbrev pub at_most : ℕ → Option ℕ → Option ℕ

@@ -1,4 +1,3 @@
 pub mod Fields
 pub mod Entries
 pub mod Postings
-pub mod Shown

@@ -1,9 +1,11 @@
 // The lines of a month's file.
-ghost use Rattle.cabinet_month.specs.Entries.{entry_of, rate_of, reading_of};
-ghost use Rattle.std.specs.Prelude.{◌≡◌};
+ghost use Rattle.cabinet_month.specs.Entries.{entry_of, rate_of, reading_of, wanted};
+ghost use Rattle.std.specs.Prelude.{◌≡◌, Some};
 
 use super::field::{cut, number};
 use crediting::credit::{MOST_BILL, MOST_UNITS};
+use std::error::Error;
+use std::fmt;
 
 #[derive(Clone, Copy, PartialEq, Eq, Debug)]
 pub enum Mark {
@@ -38,6 +40,24 @@ pub enum Fault {
     Units,
     Bill,
 }
+
+// What should stand in the field that a line gets wrong.
+impl fmt::Display for Fault {
+    ghost output = { λ fault. Some (wanted fault) };
+
+    fn fmt<W: fmt::Write>(&self, f: &mut fmt::Formatter<W>) -> fmt::Result {
+        f.write_str(match self {
+            Fault::Mark => "R, C or K as the first field",
+            Fault::Account => "an account number from 1 to 99999999999",
+            Fault::Class => "a service class from 1 to 16",
+            Fault::Rate => "a rate in ten-thousandths of a cent, alone at the end",
+            Fault::Units => "units from 0 to 1000000000000",
+            Fault::Bill => "a bill of 0 to 1000000000 cents, alone at the end",
+        })
+    }
+}
+
+impl Error for Fault {}
 
 fn read_rate(fields: &[u8]) -> Result<Entry, Fault>
     ensures { result ≡ rate_of fields.now }

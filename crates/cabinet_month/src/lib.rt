@@ -1,7 +1,6 @@
 // A month of a project: lines of text as readings, readings as postings, postings as totals.
 #![tactic(auto)]
 
-pub mod dollars;
 pub mod entry;
 pub mod field;
 pub mod posting;

@@ -1,38 +1,25 @@
 // What a method posts for a month's readings, and the totals.
-ghost use Rattle.cabinet_month.specs.Postings.{at, posting, totals};
-ghost use Rattle.std.specs.Prelude.{◌≡◌, sum_by};
+ghost use Rattle.cabinet_month.specs.Postings.{posting, totals};
+ghost use Rattle.std.specs.Prelude.{◌≡◌};
 
 use crediting::method::CreditMethod;
 
-// One account's month: units held, their worth in cents, the credit applied to its bill in cents,
-// and the units used and left.
+// Of a month: units held, their worth in cents, the credit applied to bills in cents, and the units
+// used and left.
 #[derive(Clone, Copy, PartialEq, Eq, Debug)]
-pub struct Posting {
-    pub units: u64,
-    pub worth: u64,
-    pub applied: u64,
-    pub used: u64,
-    pub left: u64,
+pub struct Figures<N> {
+    pub units: N,
+    pub worth: N,
+    pub applied: N,
+    pub used: N,
+    pub left: N,
 }
 
-#[derive(Clone, Copy, PartialEq, Eq, Debug)]
-enum Column {
-    Units,
-    Worth,
-    Applied,
-    Used,
-    Left,
-}
+// One account's month.
+pub type Posting = Figures<u64>;
 
-// The sums of these numbers over accounts.
-#[derive(Clone, Copy, PartialEq, Eq, Debug)]
-pub struct Totals {
-    pub units: u128,
-    pub worth: u128,
-    pub applied: u128,
-    pub used: u128,
-    pub left: u128,
-}
+// The sums over accounts.
+pub type Totals = Figures<u128>;
 
 pub fn post<M: CreditMethod>(method: &M, class: u8, units: u64, bill: u64) -> Posting
     ensures { result ≡ posting (M.CreditMethod.worth method.now) class units bill }
@@ -48,38 +35,14 @@ pub fn post<M: CreditMethod>(method: &M, class: u8, units: u64, bill: u64) -> Po
     }
 }
 
-impl Posting {
-    fn at(&self, column: Column) -> u64
-        ensures { result ≡ at column self.now }
-    {
-        match column {
-            Column::Units => self.units,
-            Column::Worth => self.worth,
-            Column::Applied => self.applied,
-            Column::Used => self.used,
-            Column::Left => self.left,
-        }
-    }
-}
-
-fn sum(postings: &[Posting], column: Column) -> u128
-    ensures { result ≡ sum_by (at column) postings.now }
-{
-    let mut sum = 0;
-    for p in postings {
-        sum += u128::from(p.at(column));
-    }
-    sum
-}
-
 pub fn total(postings: &[Posting]) -> Totals
     ensures { result ≡ totals postings.now }
 {
     Totals {
-        units: sum(postings, Column::Units),
-        worth: sum(postings, Column::Worth),
-        applied: sum(postings, Column::Applied),
-        used: sum(postings, Column::Used),
-        left: sum(postings, Column::Left),
+        units: postings.iter().map(|p| u128::from(p.units)).sum(),
+        worth: postings.iter().map(|p| u128::from(p.worth)).sum(),
+        applied: postings.iter().map(|p| u128::from(p.applied)).sum(),
+        used: postings.iter().map(|p| u128::from(p.used)).sum(),
+        left: postings.iter().map(|p| u128::from(p.left)).sum(),
     }
 }

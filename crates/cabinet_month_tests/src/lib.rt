@@ -3,7 +3,7 @@
 
 #[cfg(test)]
 mod tests {
-    use cabinet_month::dollars::Dollars;
+    use amounts::{Decimal, Dollars, Percent};
     use cabinet_month::entry::{Entry, Fault, Mark, Reading, read_entry};
     use std::process::Abort;
     use std::test::Fail;
@@ -73,13 +73,27 @@ mod tests {
     #[test]
     fn amounts(rt: HostRuntime) -> Result<(), Fail> {
         let heap = rt.alloc();
-        assert_eq!(rt; Dollars(0).to_string(heap)?.as_str(), "0.00");
-        assert_eq!(rt; Dollars(5).to_string(heap)?.as_str(), "0.05");
-        assert_eq!(rt; Dollars(99).to_string(heap)?.as_str(), "0.99");
-        assert_eq!(rt; Dollars(7_454).to_string(heap)?.as_str(), "74.54");
+        assert_eq!(rt; Dollars::from(0).to_string(heap)?.as_str(), "0.00");
+        assert_eq!(rt; Dollars::from(5).to_string(heap)?.as_str(), "0.05");
+        assert_eq!(rt; Dollars::from(99).to_string(heap)?.as_str(), "0.99");
+        assert_eq!(rt; Dollars::from(7_454).to_string(heap)?.as_str(), "74.54");
         assert_eq!(rt;
-            Dollars(100_000_000_000_000).to_string(heap)?.as_str(),
+            Dollars::from(100_000_000_000_000).to_string(heap)?.as_str(),
             "1000000000000.00"
+        );
+        Ok(())
+    }
+
+    #[test]
+    fn decimals(rt: HostRuntime) -> Result<(), Fail> {
+        let heap = rt.alloc();
+        assert_eq!(rt; Percent::from(5).to_string(heap)?.as_str(), "0.005");
+        assert_eq!(rt; Percent::from(6_125).to_string(heap)?.as_str(), "6.125");
+        assert_eq!(rt; Percent::from(100_000).to_string(heap)?.as_str(), "100.000");
+        // a one that does not fit 128 bits
+        assert_eq!(rt;
+            Decimal::<39>(u128::MAX).to_string(heap)?.as_str(),
+            "0.340282366920938463463374607431768211455"
         );
         Ok(())
     }

@@ -1,3 +1,1 @@
-mod Adding
-mod Padding
-mod Opening
+mod Spaces

@@ -1,4 +1,3 @@
-pub mod Amounts
 pub mod Rows
 pub mod Tables
 pub mod Payments

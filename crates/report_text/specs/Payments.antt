@@ -1,7 +1,7 @@
 -- What the host is paid for a period, and why.
 use Rattle.std.specs.Prelude.{ℕ, ◌-◌, List, ◌++◌, length, codes}
 use Rattle.ledger.specs.declared.call.Settlement.{Settlement}
-use Rattle.report_text.specs.Amounts.{dollars}
+use Rattle.amounts.specs.Amounts.{dollars}
 use Rattle.report_text.specs.Tables.{right}
 use Rattle.report_text.specs.declared.payment.Item.{Item}
 use Rattle.report_text.specs.declared.payment.Item.TheVariants as item

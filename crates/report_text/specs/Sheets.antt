@@ -1,5 +1,5 @@
 -- The rows of a period.
-use Rattle.std.specs.Prelude.{ℕ, cond, List, [], ◌∷◌, length, get_or, ◌==◌, nat_lt, slice_index_or, slice_set}
+use Rattle.std.specs.Prelude.{ℕ, cond, List, length, map, zip, get_or, ◌==◌, nat_lt, slice_index_or, slice_set}
 use Rattle.accounts.specs.declared.record.Record.{Record}
 use Rattle.ledger.specs.declared.call.Done.{Done}
 use Rattle.ledger.specs.declared.call.Done.TheVariants as done
@@ -7,10 +7,8 @@ use Rattle.report_text.specs.Rows.{opened, billed, finally_billed, blank}
 use Rattle.report_text.specs.declared.row.Row.{Row}
 
 -- a row for each record, by what it was before the reading and is after it
-unfoldable pub opened_rows : List Record → List Record → List Row
-opened_rows [] after = []
-opened_rows (b ∷ bs) [] = []
-opened_rows (b ∷ bs) (a ∷ rest) = opened b a ∷ opened_rows bs rest
+abbrev pub opened_rows : List Record → List Record → List Row
+opened_rows before after = map (λ (b, a). opened b a) (zip before after)
 
 -- only bills change a row
 abbrev pub after_call : Row → Done → Row

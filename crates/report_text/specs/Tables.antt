@@ -1,7 +1,6 @@
 -- The lines of a summary.
-use Rattle.std.specs.Prelude.{ℕ, ◌-◌, List, [], ◌++◌, length, replicate, codes, decimal}
-use Rattle.ledger.specs.Sums.{total}
-use Rattle.report_text.specs.Amounts.{dollars, percent}
+use Rattle.std.specs.Prelude.{ℕ, ◌-◌, List, [], ◌++◌, length, replicate, codes, decimal, sum_by}
+use Rattle.amounts.specs.Amounts.{dollars, percent}
 use Rattle.report_text.specs.Rows.{available, cell}
 use Rattle.report_text.specs.declared.row.Column.TheVariants as column
 use Rattle.report_text.specs.declared.row.Row.{Row}
@@ -27,11 +26,11 @@ row_figures r =
 abbrev pub sum_figures : List Row → Figures
 sum_figures rs =
     record {
-      carried = total (cell column.Carried) rs;
-      share = total (cell column.Share) rs;
-      available = total (cell column.Available) rs;
-      applied = total (cell column.Applied) rs;
-      left = total (cell column.Left) rs;
+      carried = sum_by (cell column.Carried) rs;
+      share = sum_by (cell column.Share) rs;
+      available = sum_by (cell column.Available) rs;
+      applied = sum_by (cell column.Applied) rs;
+      left = sum_by (cell column.Left) rs;
     }
 
 -- the reading's rest is the bank's share; no bill is paid from the bank
@@ -61,7 +60,7 @@ summary_label summary.Satellites = codes "Satellites"
 summary_label summary.HostBank = codes "Host bank"
 
 abbrev pub satellites_text : List Row → List ℕ
-satellites_text rs = table_text (summary_label summary.Satellites) (percent (total (cell column.Percentage) rs)) (sum_figures rs)
+satellites_text rs = table_text (summary_label summary.Satellites) (percent (sum_by (cell column.Percentage) rs)) (sum_figures rs)
 
 abbrev pub bank_text : Bank → List ℕ
 bank_text b = table_text (summary_label summary.HostBank) [] (bank_figures b)

@@ -1,51 +1,21 @@
 // Cells of a table, pushed one behind the other.
-ghost use Rattle.std.specs.Prelude.{◌≡◌, ◌++◌, string_bytes, decimal, OnOk};
-ghost use Rattle.report_text.specs.Amounts.{dollars, percent};
+ghost use Rattle.std.specs.Prelude.{◌≡◌, ◌++◌, string_bytes, IfSome, OnOk};
 ghost use Rattle.report_text.specs.Tables.{right};
 
-use super::dollars::Dollars;
-use super::percent::Percent;
 use std::alloc::{AllocError, Global};
+use std::fmt::Display;
 
-// Pushes a text to the right side of a cell of a width.
-pub(crate) fn push_right(out: &mut String, text: &str, width: usize) -> Result<(), AllocError>
-    ensures { OnOk result (string_bytes out.new ≡ string_bytes out.old ++ right width text.now) }
-{
-    for column in text.len()..width {
-        out.push_str(" ")?;
-    }
-    out.push_str(text)?;
-    Ok(())
-}
-
-pub(crate) fn push_units(out: &mut String, units: u128, heap: Global) -> Result<(), AllocError>
-    ensures { OnOk result (string_bytes out.new ≡ string_bytes out.old ++ right 15 (decimal units)) }
-{
-    let text = format!(in heap; "{units}")?;
-    push_right(out, text.as_str(), 15)
-}
-
-pub(crate) fn push_dollars(
+// Pushes what a cell shows to the right side of its width.
+#[tactic(auto, using(crate::proofs::Spaces::spaces))]
+pub(crate) fn push_right<T: Display>(
     out: &mut String,
-    cents: u128,
+    shown: &T,
     width: usize,
     heap: Global,
 ) -> Result<(), AllocError>
-    ensures { OnOk result (string_bytes out.new ≡ string_bytes out.old ++ right width (dollars cents)) }
+    ensures { OnOk result (IfSome (T.output shown.now) (λ text. string_bytes out.new ≡ string_bytes out.old ++ right width text)) }
 {
-    let amount = Dollars(cents);
-    let text = format!(in heap; "{amount}")?;
-    push_right(out, text.as_str(), width)
-}
-
-pub(crate) fn push_percent(
-    out: &mut String,
-    thousandths: u128,
-    heap: Global,
-) -> Result<(), AllocError>
-    ensures { OnOk result (string_bytes out.new ≡ string_bytes out.old ++ right 10 (percent thousandths)) }
-{
-    let amount = Percent(thousandths);
-    let text = format!(in heap; "{amount}")?;
-    push_right(out, text.as_str(), 10)
+    let text = shown.to_string(heap)?;
+    let gap = width.saturating_sub(text.len());
+    write!(out, "{:gap$}{text}", "")
 }

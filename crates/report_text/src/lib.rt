@@ -2,9 +2,7 @@
 #![tactic(auto)]
 
 mod cells;
-pub mod dollars;
 pub mod payment;
-pub mod percent;
 pub mod row;
 pub mod sheet;
 pub mod table;

@@ -1,10 +1,12 @@
 // What the host is paid for a period, and why.
-ghost use Rattle.std.specs.Prelude.{◌≡◌, IfOk, string_bytes};
+ghost use Rattle.std.specs.Prelude.{◌≡◌, IfOk, Some, string_bytes};
 ghost use Rattle.report_text.specs.Payments.{cents_of, label_of, payment_text};
 
-use super::cells::push_dollars;
+use super::cells::push_right;
+use amounts::Dollars;
 use ledger::call::Settlement;
 use std::alloc::{AllocError, Global};
+use std::fmt;
 
 // The lines, from the credit that all satellites had down to what the host is paid.
 #[derive(Clone, Copy, PartialEq, Eq, Debug)]
@@ -28,6 +30,23 @@ pub const ITEMS: [Item; 7] = [
     Item::Payment,
 ];
 
+// The label of an item.
+impl fmt::Display for Item {
+    ghost output = { λ item. Some (label_of item) };
+
+    fn fmt<W: fmt::Write>(&self, f: &mut fmt::Formatter<W>) -> fmt::Result {
+        f.write_str(match self {
+            Item::Applied => "Credit applied to satellites",
+            Item::ToAnchors => "  less that of excluded anchors, without fee",
+            Item::ToMembers => "Credit applied to members",
+            Item::NetCredit => "  less their net credit",
+            Item::Fees => "Subscription fees",
+            Item::UtilityFee => "  less utility fee, 1.5 percent of members' credit",
+            Item::Payment => "Paid to the host",
+        })
+    }
+}
+
 impl Item {
     // Its cents, by the credit applied to all satellites and the settlement of the period.
     pub fn cents(self, applied: u128, settlement: &Settlement) -> u128
@@ -46,20 +65,6 @@ impl Item {
         }
     }
 
-    pub fn label(self) -> &'static str
-        ensures { result.now ≡ label_of self }
-    {
-        match self {
-            Item::Applied => "Credit applied to satellites",
-            Item::ToAnchors => "  less that of excluded anchors, without fee",
-            Item::ToMembers => "Credit applied to members",
-            Item::NetCredit => "  less their net credit",
-            Item::Fees => "Subscription fees",
-            Item::UtilityFee => "  less utility fee, 1.5 percent of members' credit",
-            Item::Payment => "Paid to the host",
-        }
-    }
-
     // The line of an item, with its dollars at the right.
     pub fn line(
         self,
@@ -69,10 +74,10 @@ impl Item {
     ) -> Result<String, AllocError>
         ensures { IfOk result (λ s. string_bytes s ≡ payment_text self applied settlement.now) }
     {
-        let label = self.label();
-        let mut line = String::from_str(heap, label)?;
-        let width = 66usize.saturating_sub(label.len());
-        push_dollars(&mut line, self.cents(applied, settlement), width, heap)?;
+        let mut line = self.to_string(heap)?;
+        let width = 66usize.saturating_sub(line.len());
+        let amount = Dollars::from(self.cents(applied, settlement));
+        push_right(&mut line, &amount, width, heap)?;
         Ok(line)
     }
 }

@@ -1,6 +1,5 @@
 // A satellite's row in the summary of a period.
-ghost use Rattle.std.specs.Prelude.{◌≡◌, ◌+◌, ◌≤◌};
-ghost use Rattle.ledger.specs.Sums.{total};
+ghost use Rattle.std.specs.Prelude.{◌≡◌, ◌≤◌, sum_by};
 ghost use Rattle.report_text.specs.Rows.{opened, billed, finally_billed, available, cell};
 
 use accounts::record::Record;
@@ -23,7 +22,7 @@ pub struct Row {
     pub forfeited: u64,
 }
 
-// A column of numbers.
+// A column of numbers; an enum, as the report names its columns.
 #[derive(Clone, Copy, PartialEq, Eq, Debug)]
 pub enum Column {
     Percentage,
@@ -101,12 +100,8 @@ impl Column {
 
     // The sum of the column over all rows.
     pub fn total(self, rows: &[Row]) -> u128
-        ensures { result ≡ total (cell self) rows.now }
+        ensures { result ≡ sum_by (cell self) rows.now }
     {
-        let mut sum = 0u128;
-        for row in rows {
-            sum += self.of(row);
-        }
-        sum
+        rows.iter().map(|row| self.of(row)).sum()
     }
 }

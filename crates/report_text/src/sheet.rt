@@ -1,5 +1,5 @@
 // The rows of a period: made when it is read, and changed as its bills come.
-ghost use Rattle.std.specs.Prelude.{◌≡◌, length, IfOk};
+ghost use Rattle.std.specs.Prelude.{◌≡◌, IfOk};
 ghost use Rattle.report_text.specs.Sheets.{opened_rows, after_call, noted};
 
 use super::row::Row;
@@ -15,11 +15,11 @@ pub fn opened_rows(
 ) -> Result<Vec<Row>, AllocError>
     ensures { IfOk result (λ rows. rows.items ≡ opened_rows before.now after.now) }
 {
-    let mut rows = Vec::new(heap);
-    for place in 0..before.len().min(after.len()) {
-        rows.push(Row::opened(&before[place], &after[place]))?;
-    }
-    Ok(rows)
+    before
+        .iter()
+        .zip(after)
+        .map(|(before, after)| Row::opened(before, after))
+        .collect(heap)
 }
 
 // A row once a call on its account is performed; only bills change it.
@@ -37,11 +37,7 @@ fn after_call(row: Row, done: &Done) -> Row
 pub fn note(rows: &mut [Row], place: usize, account: u64, done: &Done)
     ensures { rows.new ≡ noted rows.old place account done.now }
 {
-    if place >= rows.len() {
-        return;
-    }
-    let row = rows[place];
-    if row.account == account {
-        rows[place] = after_call(row, done);
+    if place < rows.len() && rows[place].account == account {
+        rows[place] = after_call(rows[place], done);
     }
 }

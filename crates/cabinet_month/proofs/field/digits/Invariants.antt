@@ -1,9 +1,7 @@
-use Rattle.std.proofs.Common.{◌≡◌, ◌<◌, drop}
+use Rattle.std.proofs.Common.{◌≡◌, drop}
 use Rattle.cabinet_month.specs.Fields.{at_most, gathered, up_to}
 use Rattle.cabinet_month.proofs.field.digits.Given as goal
 
--- the digits that are left give the field's number, and the number so far fits
+-- the digits that are left give the field's number
 abbrev pub invariant-loop-b : goal.invariant-loop-b
-invariant-loop-b l =
-    (at_most l.most (gathered l.n (drop l.b-index l.field)) ≡ up_to l.most l.field)
-    × (l.n < 340282366920938463463374607431768211456)
+invariant-loop-b l = at_most l.most (gathered l.n (drop l.b-index l.field)) ≡ up_to l.most l.field

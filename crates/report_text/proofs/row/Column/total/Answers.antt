@@ -1,15 +1,8 @@
-use Rattle.std.proofs.Common.{arith}
-use Rattle.report_text.specs.Rows.{cell, blank}
-use Rattle.report_text.proofs.Adding.{total_more, total_end}
+use Rattle.std.proofs.Common.{◌^◌, arith, rules}
+use Rattle.std.proofs.lemmas.Iterator.{YieldsList-from_slice}
+use Rattle.std.proofs.lemmas.Iterator.Adapters.{at_most_from_yields_List, fits_from_length}
 use Rattle.report_text.proofs.row.Column.total.Goals as goal
 
-pub loop-row-preserved : goal.loop-row-preserved
-loop-row-preserved c =
-    let more = total_more (cell c.args.self) c.args.rows.now c.loop-row.row-index blank c.loop-row-test.true in (
-      omega (arith, more, c.loop-row.invariant.0, c.of-sum.ensures.value),
-      omega (arith, c.loop-row.invariant.1, c.of-sum.ensures.bound),
-    )
-
-pub returns : goal.returns
-returns c =
-    omega (arith, total_end (cell c.args.self) c.args.rows.now c.loop-row.row-index c.loop-row-test.false, c.loop-row.invariant.0)
+pub sum-requires-clause-fits : goal.sum-requires-clause-fits
+sum-requires-clause-fits c =
+    fits_from_length _ _ (2 ^ 63) _ (at_most_from_yields_List (YieldsList-from_slice c.args.rows.now cc) (omega arith)) c.map.ensures.closure (omega arith) (λ x r q k. search (rules))
