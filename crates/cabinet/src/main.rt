@@ -90,7 +90,7 @@ fn table<M: CreditMethod>(
 ) -> anyhow::Result<()> {
     let heap = rt.alloc();
     let mut postings: Vec<Posting> = Vec::new(heap);
-    let mark = char::from(M::letter());
+    let mark = char::from(M::MARK);
     println!(rt; "{mark}: units are {unit}; worth and applied credit in dollars")?;
     println!(rt;
         "{:<11} {:>14} {:>14} {:>14} {:>14} {:>14}",
