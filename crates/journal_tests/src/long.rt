@@ -15,15 +15,11 @@ fn sixty_thousand_bills(rt: HostRuntime) -> Result<(), Fail> {
         text.extend_from_slice(b"bill 20010000001 100\n")?;
     }
     assert!(rt; text.len() > 1_000_000);
-    match read_journal(text.as_slice(), heap) {
-        Ok(journal) => {
-            assert_eq!(rt; journal.lines, BILLS + 3);
-            assert_eq!(rt; journal.entries.len(), BILLS + 3);
-            let plan: Plan<ValueStack> = plan(journal.entries.as_slice(), heap)?;
-            assert_eq!(rt; plan.calls.len(), BILLS);
-            assert_eq!(rt; plan.notes.len(), BILLS);
-            Ok(())
-        }
-        Err(_) => Err(Fail::new("refused")),
-    }
+    let journal = read_journal(text.as_slice(), heap)?;
+    assert_eq!(rt; journal.lines, BILLS + 3);
+    assert_eq!(rt; journal.entries.len(), BILLS + 3);
+    let plan: Plan<ValueStack> = plan(journal.entries.as_slice(), heap)?;
+    assert_eq!(rt; plan.calls.len(), BILLS);
+    assert_eq!(rt; plan.notes.len(), BILLS);
+    Ok(())
 }

@@ -31,17 +31,13 @@ fn stands_on(
     lines: usize,
     places: &[usize],
 ) -> Result<(), Fail> {
-    match read_journal(text, heap) {
-        Ok(journal) => {
-            assert_eq!(rt; journal.lines, lines);
-            assert_eq!(rt; journal.entries.len(), places.len());
-            for (entry, place) in journal.entries.iter().zip(places.iter()) {
-                assert_eq!(rt; entry.line, *place);
-            }
-            Ok(())
-        }
-        Err(_) => Err(Fail::new("refused")),
+    let journal = read_journal(text, heap)?;
+    assert_eq!(rt; journal.lines, lines);
+    assert_eq!(rt; journal.entries.len(), places.len());
+    for (entry, place) in journal.entries.iter().zip(places) {
+        assert_eq!(rt; entry.line, *place);
     }
+    Ok(())
 }
 
 #[test]

@@ -64,6 +64,7 @@ impl<M: Rated + Drop> Plan<M> {
     fn read_request(&mut self, file: &[u8], heap: Global) -> Result<(), AllocError>
         ensures { OnOk result (seen M.CreditMethod.worth self.new ≡ read_file (seen M.CreditMethod.worth self.old) file.now) }
     {
+        // the reader writes to a table that is lent to it
         let mut table = [Line::default(); MOST_LINES];
         let read = read(file, &mut table);
         if let Ok(lines) = read {

@@ -88,7 +88,7 @@ pub fn sum<M>(amount: Amount, calls: &[Call<M>], answers: &[Result<Done, Refusal
         .sum()
 }
 
-// The units held in all records.
+// The units held in all records; a book gives them by their places.
 #[tactic(auto, using(crate::proofs::Summing::held_more))]
 pub fn held<B: AccountBook>(book: &B) -> u128
     ensures { B.sound book.now → result ≡ total (λ x. x.held) (B.contents book.now).records }
