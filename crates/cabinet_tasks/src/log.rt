@@ -92,12 +92,9 @@ fn print_books<W: Write, B: AccountBook>(
     let heap = rt.alloc();
     let line = ledger_line(ledger.phase(), ledger.closed_periods(), ledger.bank(), heap)?;
     writeln!(out, "{line}")?;
-    // by place: an account book is asked for one record after the other
-    for place in 0..book.count() {
-        if let Some(record) = book.get(place) {
-            let line = account_line(record, heap)?;
-            writeln!(out, "{line}")?;
-        }
+    for record in (0..book.count()).filter_map(|place| book.get(place)) {
+        let line = account_line(record, heap)?;
+        writeln!(out, "{line}")?;
     }
     Ok(())
 }

@@ -51,14 +51,9 @@ impl Sheet {
 }
 
 fn records<B: AccountBook>(book: &B, heap: Global) -> Result<Vec<Record>, AllocError> {
-    let mut records = Vec::new(heap);
-    // by place: an account book is asked for one record after the other
-    for place in 0..book.count() {
-        if let Some(record) = book.get(place) {
-            records.push(record)?;
-        }
-    }
-    Ok(records)
+    (0..book.count())
+        .filter_map(|place| book.get(place))
+        .collect(heap)
 }
 
 // Prints a period's report.
