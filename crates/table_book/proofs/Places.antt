@@ -1,10 +1,12 @@
 -- The front of a table as the records of a book.
-use Rattle.std.proofs.Common.{◌≡◌, ℕ, zero, suc, ◌+◌, ◌<◌, min, true, cond, eqb, List, [], ◌∷◌, length, take, set, Some, refl, ap, ◌∙◌}
+use Rattle.std.proofs.Common.{◌≡◌, ℕ, ◌+◌, ◌<◌, min, true, cond, eqb, List, [], ◌∷◌, length, take, set, Some, refl, ap, ◌∙◌, arith}
 use Rattle.std.proofs.lemmas.Iterator.Adapters.{position_from-zero}
 use Rattle.std.proofs.lemmas.List.{length-set, length-take, take_more_set}
+use Rattle.std.proofs.Math.Seq.{take-set-lt}
 use Rattle.std.specs.List.{position, position_from}
 use Rattle.accounts.specs.declared.record.Record.{Record}
 use Rattle.accounts.specs.Books.{accounts, find_from, find, Proper, takes, suits}
+use Rattle.accounts.proofs.Answering.{takes_parts, suits_parts}
 use Rattle.accounts.proofs.Keeping.{proper_add, proper_replace}
 
 found_from : (a i : ℕ) (rs : List Record) → position_from (λ r. eqb r.account a) i rs ≡ find_from i a (accounts rs)
@@ -15,18 +17,20 @@ found_from a i (r ∷ rs) = ap (cond (eqb r.account a) (Some i)) (found_from a (
 pub find_position : (a : ℕ) (rs : List Record) → position (λ r. eqb r.account a) rs ≡ find a (accounts rs)
 find_position a rs = position_from-zero (λ r. eqb r.account a) rs ∙ found_from a 0 rs
 
-module _ (table : List Record) (n : ℕ) where
-  pub records_length : length (take n table) ≡ min n (length table)
-  records_length = length-take n table
+-- a record put after the last, and one put in the place of another
+pub proper_added : (table : List Record) (n : ℕ) (r : Record) → Proper (take n table) (min 4096 (length table)) → takes (take n table) (min 4096 (length table)) r ≡ true → Proper (take (n + 1) (set table n r)) (min 4096 (length (set table n r)))
+proper_added table n r p t =
+    let h = (takes_parts (take n table) (min 4096 (length table)) r t).0 in
+    let l = length-take n table in
+    let k : n < length table = omega arith in
+    simp (length-set, take_more_set table n r k) (proper_add (take n table) (min 4096 (length table)) r p t)
 
-  pub proper_added : (r : Record) → n < length table → Proper (take n table) (min 4096 (length table)) → takes (take n table) (min 4096 (length table)) r ≡ true → Proper (take (n + 1) (set table n r)) (min 4096 (length (set table n r)))
-  proper_added r h p t = simp (length-set, take_more_set table n r h) (proper_add (take n table) (min 4096 (length table)) r p t)
-
-pub take_set_in : {X : Type 0} (n : ℕ) (xs : List X) (i : ℕ) (y : X) → take n (set xs i y) ≡ set (take n xs) i y
-take_set_in zero xs i y = refl
-take_set_in (suc n) [] i y = refl
-take_set_in (suc n) (x ∷ xs) zero y = refl
-take_set_in (suc n) (x ∷ xs) (suc i) y = ap (λ zs. x ∷ zs) (take_set_in n xs i y)
+pub set_within : (table : List Record) (n i : ℕ) (r : Record) → suits (take n table) i r ≡ true → take n (set table i r) ≡ set (take n table) i r
+set_within table n i r t =
+    let h = (suits_parts (take n table) i r t).0 in
+    let l = length-take n table in
+    take-set-lt n table i r (omega arith)
 
 pub proper_replaced : (table : List Record) (n i : ℕ) (r : Record) → Proper (take n table) (min 4096 (length table)) → suits (take n table) i r ≡ true → Proper (take n (set table i r)) (min 4096 (length (set table i r)))
-proper_replaced table n i r p t = simp (length-set, take_set_in) (proper_replace (take n table) (min 4096 (length table)) i r p t)
+proper_replaced table n i r p t =
+    simp (length-set, set_within table n i r t) (proper_replace (take n table) (min 4096 (length table)) i r p t)

@@ -1,15 +1,8 @@
 -- A book in a table of records that is lent to it.
 use Rattle.std.specs.Prelude.{◌≡◌, ℕ, ◌+◌, ◌≤◌, min, Bool, cond, List, [], ◌∷◌, length, take, slice_set}
-use Rattle.accounts.specs.declared.record.Size.TheVariants.{Small}
-use Rattle.accounts.specs.declared.record.Kind.TheVariants.{Member}
-use Rattle.accounts.specs.declared.record.State.TheVariants.{Open}
 use Rattle.accounts.specs.declared.record.Record.{Record}
 use Rattle.accounts.specs.Books.{Contents, Proper}
 use Rattle.table_book.specs.declared.TableBook.{TableBook}
-
--- what a read past a table's end would stand for
-abbrev pub blank : Record
-blank = record { account = 0; percentage = 0; savings = 0; class = 0; size = Small; kind = Member; state = Open; held = 0; last = 0 }
 
 -- the whole table, places past the count included
 abbrev pub table_of : TableBook → List Record

@@ -1,8 +1,8 @@
 // An account book in a table of records that the caller lends.
 #![tactic(auto)]
 
-ghost use Rattle.std.specs.Prelude.{◌≡◌, ℕ, ◌<◌, ◌≤◌, min, true, List, [], ◌∷◌, ◌++◌, is_some, length, if◌then◌else◌, slice_set};
-ghost use Rattle.accounts.specs.Books.{accounts, find, present, takes, added, suits, replaced, Left};
+ghost use Rattle.std.specs.Prelude.{◌≡◌, ℕ, ◌<◌, ◌≤◌, min, true, List, [], ◌∷◌, ◌++◌, is_some, length, take, if◌then◌else◌, slice_set};
+ghost use Rattle.accounts.specs.Books.{accounts, find, present, takes, added, suits, replaced, Proper, Left};
 
 use accounts::book::AccountBook;
 use accounts::record::Record;
@@ -15,6 +15,7 @@ pub struct TableBook<'a> {
     table: &'a mut [Record],
     count: usize,
     ghost within: { count ≤ length table.now },
+    ghost proper: { Proper (take count table.now) (min 4096 (length table.now)) },
 }
 
 impl<'a> TableBook<'a> {
@@ -55,22 +56,21 @@ impl<'a> TableBook<'a> {
 
     // Puts a record after the last.
     fn push(&mut self, new: Record)
-        requires { count_of self.old < room_of self.old }
+        requires { takes (records_of self.old) (room_of self.old) new ≡ true }
         ensures table { Added true self.new self.old new }
-        ensures after { Sound self.old → takes (records_of self.old) (room_of self.old) new ≡ true → Left (Sound self.new) (contents_of self.new) (contents_of self.old) (records_of self.old ++ new ∷ []) }
+        ensures after { Left (Sound self.new) (contents_of self.new) (contents_of self.old) (records_of self.old ++ new ∷ []) }
     {
         self.table[self.count] = new;
         self.count += 1;
     }
 
-    // Puts a record at a place of the table; none past its end.
+    // Puts a record at a place.
     fn put(&mut self, place: usize, new: Record)
+        requires { suits (records_of self.old) place new ≡ true }
         ensures table { Replaced true self.new self.old place new }
-        ensures after { Sound self.old → suits (records_of self.old) place new ≡ true → Left (Sound self.new) (contents_of self.new) (contents_of self.old) (slice_set (records_of self.old) place new) }
+        ensures after { Left (Sound self.new) (contents_of self.new) (contents_of self.old) (slice_set (records_of self.old) place new) }
     {
-        if place < self.table.len() {
-            self.table[place] = new;
-        }
+        self.table[place] = new;
     }
 }
 
@@ -100,8 +100,8 @@ impl<'a> AccountBook for TableBook<'a> {
     }
 
     fn add(&mut self, new: Record) -> bool
-        ensures answer { Sound self.old → result ≡ takes (records_of self.old) (room_of self.old) new }
-        ensures after { Sound self.old → Left (Sound self.new) (contents_of self.new) (contents_of self.old) (added result (records_of self.old) new) }
+        ensures answer { result ≡ takes (records_of self.old) (room_of self.old) new }
+        ensures after { Left (Sound self.new) (contents_of self.new) (contents_of self.old) (added result (records_of self.old) new) }
         ensures table { Added result self.new self.old new }
     {
         if self.count >= self.places() {
@@ -118,8 +118,8 @@ impl<'a> AccountBook for TableBook<'a> {
     }
 
     fn replace(&mut self, place: usize, new: Record) -> bool
-        ensures answer { Sound self.old → result ≡ suits (records_of self.old) place new }
-        ensures after { Sound self.old → Left (Sound self.new) (contents_of self.new) (contents_of self.old) (replaced result (records_of self.old) place new) }
+        ensures answer { result ≡ suits (records_of self.old) place new }
+        ensures after { Left (Sound self.new) (contents_of self.new) (contents_of self.old) (replaced result (records_of self.old) place new) }
         ensures table { Replaced result self.new self.old place new }
     {
         if !new.in_range() {
