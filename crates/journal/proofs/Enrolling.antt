@@ -1,10 +1,9 @@
 -- An enrolment keeps what stands.
-use Rattle.std.proofs.Common.{◌≡◌, ℕ, ◌+◌, ◌≤◌, List, [], ◌∷◌, map, length, vec_items, Vec, refl, ap, arith}
+use Rattle.std.proofs.Common.{◌≡◌, ℕ, ◌+◌, ◌≤◌, List, map, length, vec_items, Vec, refl, arith}
 use Rattle.std.proofs.lemmas.List.{length-map}
 use Rattle.std.specs.declared.alloc.Global.{Global}
 use Rattle.accounts.specs.declared.record.Line.{Line}
 use Rattle.accounts.specs.declared.record.Record.{Record}
-use Rattle.accounts.specs.Books.{accounts}
 use Rattle.ledger.specs.declared.call.Call.TheVariants as call
 use Rattle.ledger.specs.declared.phase.Phase.TheVariants.{Between}
 use Rattle.ledger.specs.Lines.{enrolled, new_accounts}
@@ -15,6 +14,7 @@ use Rattle.ledger.specs.Sums.{total}
 use Rattle.journal.specs.Histories as history
 use Rattle.journal.specs.Histories.{History, class_of, disbursed_to, percentage_of, shares_of, used_by}
 use Rattle.journal.proofs.Entering.{entered_found, entered_held, entered_length, entered_percentages}
+use Rattle.ledger.proofs.Entering.{unallocated_accounts}
 use Rattle.ledger.proofs.Requests.{judged}
 use Rattle.ledger.proofs.Found.{map_found}
 use Rattle.journal.proofs.Standing.{Kept, Stands, keeps_declined, unbounded}
@@ -27,10 +27,6 @@ record Entered (rs : List Record) (ls : List Line) : Type 0 where
   whole : total (λ r. r.percentage) (enrolled rs ls) ≤ total (λ l. l.percentage) ls
   held : total (λ r. r.held) (enrolled rs ls) ≡ total (λ r. r.held) rs
 
-same_accounts : (rs : List Record) → accounts (map unallocated rs) ≡ accounts rs
-same_accounts [] = refl
-same_accounts (r ∷ rs) = ap (λ xs. r.account ∷ xs) (same_accounts rs)
-
 entered : (rs : List Record) (ls : List Line) → Entered rs ls
 entered rs ls =
     let none : List Record = map unallocated rs in
@@ -39,7 +35,7 @@ entered rs ls =
     let zero₀ = total_nothing rs in
     let held₀ = total_map (λ (r : Record). r.held) unallocated rs in
     record {
-      size = omega (arith, entered_length rs none ls (λ a p. rw same_accounts p));
+      size = omega (arith, entered_length rs none ls (λ a p. rw unallocated_accounts p));
       whole = omega (arith, entered_percentages none ls);
       held = omega (arith, entered_held none ls);
     }

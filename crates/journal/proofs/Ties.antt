@@ -43,18 +43,7 @@ tied_same p k g u p' g' u' o c d e t = rw (c, d, e) t
 
 -- with other units held and another last period
 abbrev kept : ℕ → ℕ → Record → Record
-kept held last r =
-    record {
-      account = r.account;
-      percentage = r.percentage;
-      savings = r.savings;
-      class = r.class;
-      size = r.size;
-      kind = r.kind;
-      state = r.state;
-      held = held;
-      last = last;
-    }
+kept held last r = record r { held = held; last = last }
 
 -- the tie of a record that is found and not closed
 pub found_tie : (p k g u : ℕ) (o : Option Record) (r : Record) → o ≡ Some r → is_closed r.state ≡ false → Tied p k g u o → TiedOpen p k g u r

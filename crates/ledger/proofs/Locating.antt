@@ -1,6 +1,6 @@
 -- A search's place, and the record of the account that was sought.
-use Rattle.std.proofs.Common.{◌≡◌, ℕ, suc, ◌+◌, ◌-◌, ◌≤◌, true, false, eqb, List, [], ◌∷◌, set, is_some, Some, None, Option, sym, refl, ap, ◌∙◌, subst, ⊎_elim, arith, eq-eqb, eqb-true, IfSome, MatchOption, option_map}
-use Rattle.std.proofs.lemmas.Bool.{cases_Bool, cond-true, cond-false}
+use Rattle.std.proofs.Common.{◌≡◌, ℕ, suc, ◌+◌, ◌-◌, ◌≤◌, true, false, eqb, List, [], ◌∷◌, set, is_some, Some, None, Option, sym, refl, ap, ◌∙◌, subst, ⊎_elim, arith, eq-eqb, eqb-true}
+use Rattle.std.proofs.lemmas.Bool.{both_ways, cases_Bool, cond-true, cond-false}
 use Rattle.std.specs.List.{slice_get}
 use Rattle.std.proofs.lemmas.Option.{none-some}
 use Rattle.accounts.proofs.Answering.{suits_same}
@@ -9,7 +9,6 @@ use Rattle.accounts.proofs.Keeping.{every_nth}
 use Rattle.accounts.specs.declared.record.Record.{Record}
 use Rattle.accounts.specs.Books.{accounts, find_from, find, Proper}
 use Rattle.accounts.specs.Ranges.{in_range}
-use Rattle.ledger.specs.declared.entry.Entry.{Entry}
 use Rattle.ledger.specs.Records.{record_of, put, Located}
 use Rattle.ledger.proofs.Found.{present_found}
 
@@ -63,7 +62,7 @@ found_at : (a i : ℕ) (rs : List Record) → find a (accounts rs) ≡ Some i �
 found_at a i rs e = subst (Found rs a) (omega arith) (found_from a 0 i rs e).1
 
 -- where a search gave a place, the record there is the account's
-located : (a i room : ℕ) (rs : List Record) (r : Record) → Proper rs room → find a (accounts rs) ≡ Some i → slice_get rs i ≡ Some r → Located rs a i r
+pub located : (a i room : ℕ) (rs : List Record) (r : Record) → Proper rs room → find a (accounts rs) ≡ Some i → slice_get rs i ≡ Some r → Located rs a i r
 located a i room rs r p e n =
     let f = found_at a i rs e in
     let fat = f.at in
@@ -78,8 +77,12 @@ located a i room rs r p e n =
     }
 
 -- and there is a record
-found_some : (a i : ℕ) (rs : List Record) → find a (accounts rs) ≡ Some i → slice_get rs i ≡ None → ⊥
+pub found_some : (a i : ℕ) (rs : List Record) → find a (accounts rs) ≡ Some i → slice_get rs i ≡ None → ⊥
 found_some a i rs e n = let f = found_at a i rs e in none-some f.found (sym n ∙ f.at)
+
+-- a record of a book is in range
+pub in_book : (i room : ℕ) (rs : List Record) (r : Record) → Proper rs room → slice_get rs i ≡ Some r → false ≡ in_range r → ⊥
+in_book i room rs r p n out = both_ways _ (sym out) (every_nth in_range rs i r p.ranged n)
 
 -- where a search gave nothing, the account has no record
 none_of : {X : Type 0} (o : Option X) → is_some o ≡ false → o ≡ None
@@ -88,9 +91,3 @@ none_of (Some x) e = cc
 
 pub missing : (a : ℕ) (rs : List Record) → find a (accounts rs) ≡ None → record_of a rs ≡ None
 missing a rs e = none_of _ (sym (present_found a rs) ∙ sym (found_present a 0 (accounts rs)) ∙ ap is_some e)
-
--- what is read from a book at a place that its search gave
-pub located_cases : (a i room : ℕ) (rs : List Record) (o : Option Entry) → Proper rs room → find a (accounts rs) ≡ Some i → option_map (λ x. x.holder) o ≡ slice_get rs i → IfSome o (λ x. x.place ≡ i) → MatchOption o ⊥ (λ x. Located rs a x.place x.holder)
-located_cases a i room rs None p e n h = found_some a i rs e (sym n)
-located_cases a i room rs (Some x) p e n h =
-    subst (λ k. Located rs a k x.holder) (sym h) (located a i room rs x.holder p e (sym n))

@@ -16,12 +16,11 @@ use Rattle.ledger.specs.Views.{Kept, outcome}
 
 -- the same book with another list
 abbrev pub listing : List Record → Contents → Contents
-listing xs b = record { records = xs; room = b.room; side = b.side; loans = b.loans }
+listing xs b = record b { records = xs }
 
 -- what is left with a list is left with an equal one
 pub left_as : {S : Type 0} {now before : Contents} {xs ys : List Record} → Left S now before xs → xs ≡ ys → Left S now before ys
-left_as h e =
-    record { stays = h.stays; list = h.list ∙ e; same_room = h.same_room; same_side = h.same_side; same_loans = h.same_loans }
+left_as h e = record { stays = h.stays; list = h.list ∙ e; same_room = h.same_room; same_side = h.same_side; same_loans = h.same_loans }
 
 -- and after it what a further call leaves
 pub left_on : {S S' : Type 0} {now' now before : Contents} {xs ys : List Record} → Left S now before xs → Left S' now' now ys → Left S' now' before ys
@@ -41,7 +40,7 @@ keeps h = record { stays = h.stays; same_room = h.same_room; same_side = h.same_
 -- the outcome with what is left
 pub outcome_left : {S : Type 0} {now before : Contents} {xs : List Record} (l : Ledger) (answer : Result Done Refusal) → Left S now before xs → outcome l now answer ≡ outcome l (listing xs before) answer
 outcome_left {now = now} {before = before} l answer h =
-    ap (λ room. outcome l (record { records = now.records; room = room; side = now.side; loans = now.loans }) answer) h.same_room
+    ap (λ room. outcome l (record now { room = room }) answer) h.same_room
     ∙ ap (λ xs. outcome l (listing xs before) answer) h.list
 
 pub nth_below : {X : Type 0} (xs : List X) (i : ℕ) → i < length xs → None ≡ slice_get xs i → ⊥

@@ -24,18 +24,7 @@ is_closed Closed = true
 
 -- with other units held
 abbrev pub holding : ℕ → Record → Record
-holding units r =
-    record {
-      account = r.account;
-      percentage = r.percentage;
-      savings = r.savings;
-      class = r.class;
-      size = r.size;
-      kind = r.kind;
-      state = r.state;
-      held = units;
-      last = r.last;
-    }
+holding units r = record r { held = units }
 
 -- after its share of a reading
 abbrev pub gaining : ℕ → Record → Record
@@ -43,63 +32,20 @@ gaining units r = holding (r.held + share units r.percentage) r
 
 -- after a bill in a period that used some of its units
 abbrev pub billed : ℕ → ℕ → Record → Record
-billed period used r =
-    record {
-      account = r.account;
-      percentage = r.percentage;
-      savings = r.savings;
-      class = r.class;
-      size = r.size;
-      kind = r.kind;
-      state = r.state;
-      held = r.held - used;
-      last = period;
-    }
+billed period used r = record r { held = r.held - used; last = period }
 
 -- after its final bill: nothing held, no percentage, closed
 abbrev pub ended : ℕ → Record → Record
-ended period r =
-    record {
-      account = r.account;
-      percentage = 0;
-      savings = r.savings;
-      class = r.class;
-      size = r.size;
-      kind = r.kind;
-      state = Closed;
-      held = 0;
-      last = period;
-    }
+ended period r = record r { percentage = 0; state = Closed; held = 0; last = period }
 
 -- with no percentage
 abbrev pub unallocated : Record → Record
-unallocated r =
-    record {
-      account = r.account;
-      percentage = 0;
-      savings = r.savings;
-      class = r.class;
-      size = r.size;
-      kind = r.kind;
-      state = r.state;
-      held = r.held;
-      last = r.last;
-    }
+unallocated r = record r { percentage = 0 }
 
 -- with a line's values
 abbrev pub allocated : Line → Record → Record
 allocated l r =
-    record {
-      account = r.account;
-      percentage = l.percentage;
-      savings = l.savings;
-      class = l.class;
-      size = l.size;
-      kind = l.kind;
-      state = r.state;
-      held = r.held;
-      last = r.last;
-    }
+    record r { percentage = l.percentage; savings = l.savings; class = l.class; size = l.size; kind = l.kind }
 
 -- a new account: open, nothing held, never billed
 abbrev pub joining : Line → Record

@@ -33,15 +33,6 @@ declined s why = record { state = s; answer = Err why }
 abbrev pub performed : State → Phase → ℕ → ℕ → ℕ → List Record → Done → Outcome
 performed s phase closed bank read records done =
     record {
-      state = record {
-        smallest = s.smallest;
-        farm = s.farm;
-        phase = phase;
-        closed = closed;
-        bank = bank;
-        read = read;
-        room = s.room;
-        records = records;
-      };
+      state = record s { phase = phase; closed = closed; bank = bank; read = read; records = records };
       answer = Ok done;
     }

@@ -14,6 +14,7 @@ pub enum Call<M> {
     Enrol(Vec<Line>),
     // the month's metered units
     Reading(u64),
+    // a struct of the three within would name them once more at every use
     Bill { method: M, account: u64, cents: u64 },
     // the last bill of an account, which closes it
     FinalBill { method: M, account: u64, cents: u64 },

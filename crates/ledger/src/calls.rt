@@ -4,7 +4,7 @@ ghost use Rattle.accounts.specs.Books.{Contents};
 ghost use Rattle.ledger.specs.Steps.{judge_open, open_answer, open_leaves, opened, step};
 ghost use Rattle.ledger.specs.Views.{Kept, outcome, view};
 
-use super::bills::judge_bill;
+use super::bills::Period;
 use super::call::{Call, Done, Refusal, Settlement};
 use super::ledger::Ledger;
 use super::phase::Phase;
@@ -60,6 +60,7 @@ impl Ledger {
         ensures kept { B.sound book.old → Kept (B.sound book.new) (B.contents book.new) (B.contents book.old) }
         ensures steps { B.sound book.old → outcome self.new (B.contents book.new) result ≡ step M.worth (view self.old (B.contents book.old)) call.now }
     {
+        // phase and call are matched in one decision, with each pair's rule in its place
         match (&mut self.phase, call) {
             (Phase::Between, Call::Enrol(lines)) => self.enrol(book, lines.as_slice()),
             (Phase::Between, Call::Reading(units)) => self.reading(book, *units),
@@ -86,11 +87,14 @@ impl Ledger {
                     cents,
                 },
             ) => {
-                let period = self.closed + 1;
-                let bill = judge_bill(book, method, period, *applied, *account, *cents)?;
+                let period = Period {
+                    number: self.closed + 1,
+                    applied: *applied,
+                };
+                let bill = period.judge_bill(book, method, *account, *cents)?;
                 *applied += bill.counted();
                 *fees += bill.posting.fee;
-                let _ = book.replace(bill.account.place, bill.billed(period));
+                let _ = book.replace(bill.account.place, bill.billed(period.number));
                 Ok(Done::Billed(bill.posting))
             }
             (
@@ -101,11 +105,14 @@ impl Ledger {
                     cents,
                 },
             ) => {
-                let period = self.closed + 1;
-                let bill = judge_bill(book, method, period, *applied, *account, *cents)?;
+                let period = Period {
+                    number: self.closed + 1,
+                    applied: *applied,
+                };
+                let bill = period.judge_bill(book, method, *account, *cents)?;
                 *applied += bill.counted();
                 *fees += bill.posting.fee;
-                let _ = book.replace(bill.account.place, bill.ended(period));
+                let _ = book.replace(bill.account.place, bill.ended(period.number));
                 Ok(Done::FinallyBilled {
                     posting: bill.posting,
                     forfeited: bill.left(),

@@ -8,7 +8,7 @@ ghost use Rattle.ledger.specs.Steps.{enrol};
 ghost use Rattle.ledger.specs.Views.{Kept, outcome, view};
 
 use super::call::{Done, Refusal};
-use super::entries::{located, replace_each};
+use super::entries::{entry_at, replace_each};
 use super::ledger::Ledger;
 use super::limits::{MOST_LARGE, MOST_LINES, WHOLE};
 use super::lines::{first_closed, first_out_of_range, first_repeated, new_accounts, percentages};
@@ -61,7 +61,7 @@ fn enter_line<B: AccountBook>(book: &mut B, line: &Line)
 {
     match book.search(line.account) {
         Some(place) => {
-            if let Some(entry) = located(book, line.account, place) {
+            if let Some(entry) = entry_at(book, place) {
                 let _ = book.replace(entry.place, allocated(line, entry.holder));
             }
         }

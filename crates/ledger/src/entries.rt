@@ -1,5 +1,5 @@
 // Records as the ledger reads them from its book.
-ghost use Rattle.std.specs.Prelude.{◌≡◌, map, IfSome, Some, MatchOption};
+ghost use Rattle.std.specs.Prelude.{◌≡◌, ℕ, map, Some, MatchOption};
 ghost use Rattle.std.specs.List.{slice_get};
 ghost use Rattle.std.specs.Option.{option_map};
 ghost use Rattle.accounts.specs.declared.record.Record.{Record};
@@ -12,23 +12,15 @@ use super::entry::Entry;
 use accounts::book::AccountBook;
 use accounts::record::{Record, State};
 
-// The record at a place.
+// The record at a place, which is an account's where a search gave the place.
 pub(crate) fn entry_at<B: AccountBook>(book: &B, place: usize) -> Option<Entry>
     ensures told { B.sound book.now → option_map (λ x. x.holder) result ≡ slice_get (B.contents book.now).records place }
-    ensures here { IfSome result (λ x. x.place ≡ place) }
+    ensures located { (account : ℕ) → B.sound book.now → find account (accounts (B.contents book.now).records) ≡ Some place → MatchOption result ⊥ (λ x. Located (B.contents book.now).records account x.place x.holder) }
 {
-    let holder = book.get(place)?;
-    if !holder.in_range() {
-        return None;
+    match book.get(place) {
+        Some(holder) if holder.in_range() => Some(Entry { place, holder }),
+        _ => None,
     }
-    Some(Entry { place, holder })
-}
-
-// The record of an account that a search found at a place.
-pub(crate) fn located<B: AccountBook>(book: &B, account: u64, place: usize) -> Option<Entry>
-    ensures { B.sound book.now → find account (accounts (B.contents book.now).records) ≡ Some place → MatchOption result ⊥ (λ x. Located (B.contents book.now).records account x.place x.holder) }
-{
-    entry_at(book, place)
 }
 
 // The record of an account that is open.
@@ -36,7 +28,7 @@ pub(crate) fn open_entry<B: AccountBook>(book: &B, account: u64) -> Result<Entry
     ensures { B.sound book.now → Sought (B.contents book.now).records account result }
 {
     let place = book.search(account).ok_or(Refusal::NoOpenAccount)?;
-    let entry = located(book, account, place).ok_or(Refusal::ForeignBook)?;
+    let entry = entry_at(book, place).ok_or(Refusal::ForeignBook)?;
     match entry.holder.state {
         State::Open => Ok(entry),
         State::Closed => Err(Refusal::NoOpenAccount),

@@ -6,7 +6,7 @@ ghost use Rattle.ledger.specs.Lines.{line_accounts, repeated_from, large_percent
 ghost use Rattle.ledger.specs.Records.{record_of};
 ghost use Rattle.ledger.specs.Sums.{total};
 
-use super::entries::located;
+use super::entries::entry_at;
 use accounts::book::AccountBook;
 use accounts::record::{Line, Size, State};
 
@@ -79,7 +79,7 @@ fn is_closed<B: AccountBook>(book: &B, account: u64) -> bool
     let Some(place) = book.search(account) else {
         return false;
     };
-    located(book, account, place).is_some_and(|entry| entry.holder.state == State::Closed)
+    entry_at(book, place).is_some_and(|entry| entry.holder.state == State::Closed)
 }
 
 // How many lines are of accounts that the book lacks.

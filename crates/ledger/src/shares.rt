@@ -17,6 +17,7 @@ use accounts::book::AccountBook;
 use accounts::record::Record;
 use crediting::credit::MOST_UNITS;
 
+// The month's metered units.
 #[derive(Clone, Copy)]
 struct Reading {
     units: u64,
