@@ -1,17 +1,19 @@
 -- Adding and replacing in an image that opens.
-use Rattle.std.proofs.Common.{◌≡◌, ℕ, ◌+◌, ◌-◌, ◌/◌, ◌^◌, ◌<◌, ◌≤◌, min, true, List, [], ◌∷◌, ◌++◌, length, set, is_some, Some, ap, ◌∙◌, ⊎_elim, add-one, arith, below_more}
+use Rattle.std.proofs.Common.{◌≡◌, ℕ, ◌+◌, ◌-◌, ◌/◌, ◌^◌, ◌<◌, ◌≤◌, min, true, List, [], ◌∷◌, ◌++◌, length, set, is_some, Some, sym, ap, ◌∙◌, subst, ⊎_elim, add-one, arith, below_more}
 use Rattle.std.proofs.lemmas.Bool.{cases_eq}
 use Rattle.std.specs.Int.{w32, to_le_bytes, from_le_bytes}
 use Rattle.accounts.specs.declared.record.Record.{Record}
 use Rattle.accounts.specs.Ranges.{in_range}
 use Rattle.accounts.specs.Books.{accounts, distinct, takes, suits}
+use Rattle.accounts.proofs.Answering.{takes_parts, suits_parts}
 use Rattle.accounts.proofs.Keeping.{proper_add, proper_replace}
 use Rattle.record_codec.specs.Bytes.{written}
 use Rattle.record_codec.specs.Codec.{encoded, decoded}
 use Rattle.record_codec.proofs.Inverse.{decoded_encoded}
 use Rattle.image_book.specs.Images.{capacity_of, start_of, slot, held}
+use Rattle.image_book.specs.Reading.{Reads}
 use Rattle.image_book.proofs.Places.{held_more}
-use Rattle.image_book.proofs.Opening.{Open, proper_open}
+use Rattle.image_book.proofs.Opening.{Open, proper_open, open_of, reads_open}
 use Rattle.image_book.proofs.Writing.{held_same, legible_same, held_set, length_put, slot_put, slot_other, count_put, length_count, slot_count, count_count}
 
 abbrev pub with_record : ℕ → Record → List ℕ → List ℕ
@@ -87,3 +89,24 @@ module _ (bs : List ℕ) (n room : ℕ) (o : Open bs n room) (r : Record) (ok : 
               (cases_eq j i);
           apart = ap (λ rs. distinct (accounts rs)) list_replaced ∙ p.apart;
         }
+
+-- a book's image with a record added, and with one replaced
+module _ (bs : List ℕ) (n room : ℕ) (s : Reads bs n room) (r : Record) (bs' : List ℕ) where
+  pub reads_added : takes (held n bs) room r ≡ true → bs' ≡ with_added n r bs → Reads bs' (n + 1) room × (held (n + 1) bs' ≡ held n bs ++ r ∷ [])
+  reads_added t e =
+      let w = s.whole in
+      let p = takes_parts (held n bs) room r t in
+      let o = open_of bs n room s.same_count s.same_room (omega arith) in (
+        subst (λ x. Reads x (n + 1) room) (sym e) (reads_open (with_added n r bs) (n + 1) room (open_added bs n room o r p.1 (omega arith) t)),
+        ap (held (n + 1)) e ∙ list_added bs n room o r p.1 (omega arith) t,
+      )
+
+  pub reads_replaced : (i : ℕ) → suits (held n bs) i r ≡ true → bs' ≡ with_record i r bs → Reads bs' n room × (held n bs' ≡ set (held n bs) i r)
+  reads_replaced i t e =
+      let w = s.whole in
+      let f = s.proper.fits in
+      let p = suits_parts (held n bs) i r t in
+      let o = open_of bs n room s.same_count s.same_room (omega arith) in (
+        subst (λ x. Reads x n room) (sym e) (reads_open (with_record i r bs) n room (open_replaced bs n room o r p.1 i (omega arith) t)),
+        ap (held n) e ∙ list_replaced bs n room o r p.1 i (omega arith) t,
+      )

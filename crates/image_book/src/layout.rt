@@ -1,10 +1,12 @@
 // Where the count and the records stand in an image.
-ghost use Rattle.std.specs.Prelude.{◌≡◌, ◌+◌, ◌≤◌, ◌==◌, length, take, position};
+ghost use Rattle.std.specs.Prelude.{◌≡◌, ◌+◌, ◌<◌, ◌≤◌, ◌==◌, length, take, position};
+ghost use Rattle.std.specs.Int.{w32, to_le_bytes};
 ghost use Rattle.record_codec.specs.Bytes.{written};
+ghost use Rattle.record_codec.specs.Codec.{encoded};
 ghost use Rattle.image_book.specs.Images.{count_at, capacity_of, start_of, slots_in, record_at, account_in};
 
 use accounts::record::Record;
-use record_codec::codec::{RECORD_BYTES, decode};
+use record_codec::codec::{RECORD_BYTES, decode, encode};
 
 const COUNT_BYTES: usize = 4;
 
@@ -60,18 +62,28 @@ fn account_in(slot: &[u8; RECORD_BYTES]) -> u64
     u64::from_le_bytes([a, b, c, d, e, f, g, h])
 }
 
-// The byte at which the record of a place begins.
-pub(crate) fn start(place: usize) -> usize
-    requires { place ≤ 4096 }
-    ensures { result ≡ start_of place }
+// Puts a record in a place.
+pub(crate) fn put(image: &mut [u8], place: usize, new: &Record)
+    requires { place < capacity_of image.old }
+    ensures { image.new ≡ written (start_of place) (encoded new.now) image.old }
 {
-    COUNT_BYTES + RECORD_BYTES * place
+    let at = COUNT_BYTES + RECORD_BYTES * place;
+    image[at..at + RECORD_BYTES].copy_from_slice(&encode(new));
 }
 
-// Puts bytes over those of the image from a place on.
-pub(crate) fn put(image: &mut [u8], at: usize, bytes: &[u8])
-    requires { at + length bytes.now ≤ length image.old }
-    ensures { image.new ≡ written at bytes.now image.old }
+// Puts a count in the first four bytes.
+pub(crate) fn put_count(image: &mut [u8], count: u32)
+    requires { 4 ≤ length image.old }
+    ensures { image.new ≡ written 0 (to_le_bytes w32 count) image.old }
 {
-    image[at..at + bytes.len()].copy_from_slice(bytes);
+    image[..COUNT_BYTES].copy_from_slice(&count.to_le_bytes());
+}
+
+// Puts a record in the place after so many, and counts it.
+pub(crate) fn append(image: &mut [u8], count: usize, new: &Record)
+    requires { count < capacity_of image.old }
+    ensures { image.new ≡ written 0 (to_le_bytes w32 (count + 1)) (written (start_of count) (encoded new.now) image.old) }
+{
+    put(image, count, new);
+    put_count(image, count as u32 + 1);
 }

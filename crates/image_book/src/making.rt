@@ -23,7 +23,7 @@ pub(crate) fn begin(image: &mut [u8]) -> usize
         return 0;
     }
     let room = layout::capacity(image);
-    layout::put(image, 0, &0u32.to_le_bytes());
+    layout::put_count(image, 0);
     room
 }
 

@@ -2,6 +2,7 @@
 #![tactic(auto)]
 
 ghost use Rattle.std.specs.Prelude.{◌≡◌, ℕ, ◌<◌, ◌≤◌, min, true, List, [], ◌∷◌, ◌++◌, is_some, length, take, if◌then◌else◌, slice_set};
+ghost use Rattle.std.specs.List.{slice_get};
 ghost use Rattle.accounts.specs.Books.{accounts, find, present, takes, added, suits, replaced, Proper, Left};
 
 use accounts::book::AccountBook;
@@ -45,15 +46,6 @@ impl<'a> TableBook<'a> {
         &self.table[..self.count]
     }
 
-    fn place(&self, account: u64) -> Option<usize>
-        ensures found { result ≡ find account (accounts (records_of self.now)) }
-        ensures test { is_some result ≡ present account (accounts (records_of self.now)) }
-    {
-        self.records()
-            .iter()
-            .position(|record| record.account == account)
-    }
-
     // Puts a record after the last.
     fn push(&mut self, new: Record)
         requires { takes (records_of self.old) (room_of self.old) new ≡ true }
@@ -91,12 +83,19 @@ impl<'a> AccountBook for TableBook<'a> {
         self.places() // however long the table
     }
 
-    fn get(&self, place: usize) -> Option<Record> {
+    fn get(&self, place: usize) -> Option<Record>
+        ensures { result ≡ slice_get (records_of self.now) place }
+    {
         self.records().get(place).copied()
     }
 
-    fn search(&self, account: u64) -> Option<usize> {
-        self.place(account)
+    fn search(&self, account: u64) -> Option<usize>
+        ensures found { result ≡ find account (accounts (records_of self.now)) }
+        ensures test { is_some result ≡ present account (accounts (records_of self.now)) }
+    {
+        self.records()
+            .iter()
+            .position(|record| record.account == account)
     }
 
     fn add(&mut self, new: Record) -> bool
@@ -110,7 +109,7 @@ impl<'a> AccountBook for TableBook<'a> {
         if !new.in_range() {
             return false;
         }
-        if self.place(new.account).is_some() {
+        if self.search(new.account).is_some() {
             return false;
         }
         self.push(new);

@@ -6,7 +6,7 @@ use Rattle.accounts.specs.Books.{accounts}
 use Rattle.accounts.proofs.Finding.{found_present}
 use Rattle.table_book.specs.Tables.{records_of}
 use Rattle.table_book.proofs.Places.{find_position}
-use Rattle.table_book.proofs.TableBook.place.Goals as goal
+use Rattle.table_book.proofs.TableBookAccountBook.search.Goals as goal
 
 pub returns : goal.returns
 returns c =
