@@ -66,61 +66,33 @@ module _ {M : Type 0} where
   unfoldable pub percentage_of : ℕ → History M → ℕ
   percentage_of a [] = 0
   percentage_of a (enrolled ls new ∷ h) = percentage_on a (vec_items ls)
-  percentage_of a (opened units period ∷ h) = percentage_of a h
-  percentage_of a (billed m account cents p ∷ h) = percentage_of a h
   percentage_of a (finally_billed m account cents p forfeited ∷ h) = cond (account == a) 0 (percentage_of a h)
-  percentage_of a (disbursed account units bank ∷ h) = percentage_of a h
-  percentage_of a (lapsed forfeited ∷ h) = percentage_of a h
-  percentage_of a (closed s ∷ h) = percentage_of a h
-  percentage_of a (declined c why ∷ h) = percentage_of a h
+  percentage_of a (_ ∷ h) = percentage_of a h
 
   -- an account's class: that of its last accepted line
   unfoldable pub class_of : ℕ → History M → ℕ
   class_of a [] = 0
   class_of a (enrolled ls new ∷ h) = class_on a (class_of a h) (vec_items ls)
-  class_of a (opened units period ∷ h) = class_of a h
-  class_of a (billed m account cents p ∷ h) = class_of a h
-  class_of a (finally_billed m account cents p forfeited ∷ h) = class_of a h
-  class_of a (disbursed account units bank ∷ h) = class_of a h
-  class_of a (lapsed forfeited ∷ h) = class_of a h
-  class_of a (closed s ∷ h) = class_of a h
-  class_of a (declined c why ∷ h) = class_of a h
+  class_of a (_ ∷ h) = class_of a h
 
   -- an account's shares of all accepted readings, each by its percentage at that reading
   unfoldable pub shares_of : ℕ → History M → ℕ
   shares_of a [] = 0
-  shares_of a (enrolled ls new ∷ h) = shares_of a h
   shares_of a (opened units period ∷ h) = share units (percentage_of a h) + shares_of a h
-  shares_of a (billed m account cents p ∷ h) = shares_of a h
-  shares_of a (finally_billed m account cents p forfeited ∷ h) = shares_of a h
-  shares_of a (disbursed account units bank ∷ h) = shares_of a h
-  shares_of a (lapsed forfeited ∷ h) = shares_of a h
-  shares_of a (closed s ∷ h) = shares_of a h
-  shares_of a (declined c why ∷ h) = shares_of a h
+  shares_of a (_ ∷ h) = shares_of a h
 
   -- the units disbursed to an account
   unfoldable pub disbursed_to : ℕ → History M → ℕ
   disbursed_to a [] = 0
-  disbursed_to a (enrolled ls new ∷ h) = disbursed_to a h
-  disbursed_to a (opened units period ∷ h) = disbursed_to a h
-  disbursed_to a (billed m account cents p ∷ h) = disbursed_to a h
-  disbursed_to a (finally_billed m account cents p forfeited ∷ h) = disbursed_to a h
   disbursed_to a (disbursed account units bank ∷ h) = of_account a account units + disbursed_to a h
-  disbursed_to a (lapsed forfeited ∷ h) = disbursed_to a h
-  disbursed_to a (closed s ∷ h) = disbursed_to a h
-  disbursed_to a (declined c why ∷ h) = disbursed_to a h
+  disbursed_to a (_ ∷ h) = disbursed_to a h
 
   -- the units that an account's bills used
   unfoldable pub used_by : ℕ → History M → ℕ
   used_by a [] = 0
-  used_by a (enrolled ls new ∷ h) = used_by a h
-  used_by a (opened units period ∷ h) = used_by a h
   used_by a (billed m account cents p ∷ h) = of_account a account p.used + used_by a h
   used_by a (finally_billed m account cents p forfeited ∷ h) = of_account a account p.used + used_by a h
-  used_by a (disbursed account units bank ∷ h) = used_by a h
-  used_by a (lapsed forfeited ∷ h) = used_by a h
-  used_by a (closed s ∷ h) = used_by a h
-  used_by a (declined c why ∷ h) = used_by a h
+  used_by a (_ ∷ h) = used_by a h
 
   -- all that an account was given: its shares and disbursements
   abbrev pub given : ℕ → History M → ℕ
@@ -128,43 +100,21 @@ module _ {M : Type 0} where
 
   -- what one call adds to each sum; a declined call adds to none
   abbrev pub units_read : Event M → ℕ
-  units_read (enrolled ls new) = 0
   units_read (opened units period) = units
-  units_read (billed m account cents p) = 0
-  units_read (finally_billed m account cents p forfeited) = 0
-  units_read (disbursed account units bank) = 0
-  units_read (lapsed forfeited) = 0
-  units_read (closed s) = 0
-  units_read (declined c why) = 0
+  units_read _ = 0
 
   abbrev pub units_forfeited : Event M → ℕ
-  units_forfeited (enrolled ls new) = 0
-  units_forfeited (opened units period) = 0
-  units_forfeited (billed m account cents p) = 0
   units_forfeited (finally_billed m account cents p forfeited) = forfeited
-  units_forfeited (disbursed account units bank) = 0
   units_forfeited (lapsed forfeited) = forfeited
-  units_forfeited (closed s) = 0
-  units_forfeited (declined c why) = 0
+  units_forfeited _ = 0
 
   -- a bill is a bill or a final bill: a number of its posting, 0 for other calls
   abbrev pub of_bill : (Posting → ℕ) → Event M → ℕ
-  of_bill f (enrolled ls new) = 0
-  of_bill f (opened units period) = 0
   of_bill f (billed m account cents p) = f p
   of_bill f (finally_billed m account cents p forfeited) = f p
-  of_bill f (disbursed account units bank) = 0
-  of_bill f (lapsed forfeited) = 0
-  of_bill f (closed s) = 0
-  of_bill f (declined c why) = 0
+  of_bill f _ = 0
 
   -- a number of a close's settlement, 0 for other calls
   abbrev pub of_close : (Settlement → ℕ) → Event M → ℕ
-  of_close f (enrolled ls new) = 0
-  of_close f (opened units period) = 0
-  of_close f (billed m account cents p) = 0
-  of_close f (finally_billed m account cents p forfeited) = 0
-  of_close f (disbursed account units bank) = 0
-  of_close f (lapsed forfeited) = 0
   of_close f (closed s) = f s
-  of_close f (declined c why) = 0
+  of_close f _ = 0

@@ -11,27 +11,7 @@ use Rattle.ledger.specs.Refusals.{number}
 use Rattle.ledger.specs.States.{State}
 use Rattle.ledger.specs.Steps.{step}
 use Rattle.ledger.specs.Sums.{total}
-use Rattle.journal.specs.Histories.{
-  Event,
-  History,
-  enrolled,
-  opened,
-  billed,
-  finally_billed,
-  disbursed,
-  lapsed,
-  closed,
-  declined,
-  call_of,
-  answer_of,
-  class_of,
-  given,
-  used_by,
-  units_read,
-  units_forfeited,
-  of_bill,
-  of_close,
-}
+use Rattle.journal.specs.Histories.{Event, History, billed, finally_billed, closed, declined, call_of, answer_of, class_of, given, used_by, units_read, units_forfeited, of_bill, of_close}
 
 -- Performing calls one by one, each on what the ones before it left: the state after the last, and the answers.
 module _ {M : Type 0} (worth : M → ℕ → ℕ → ℕ) where
@@ -59,16 +39,13 @@ pub record CloseRule (s : Settlement) : Type 0 where
 module _ {M : Type 0} (worth : M → ℕ → ℕ → ℕ) where
   -- what holds of one call, after the calls before it
   abbrev pub EventRule : Event M → History M → Type 0
-  EventRule (enrolled ls new) h = Unit {0}
-  EventRule (opened units period) h = Unit {0}
   EventRule (billed m a cents p) h = BillRule (worth m (class_of a h)) (given a h) (used_by a h) cents p
   EventRule (finally_billed m a cents p forfeited) h =
       BillRule (worth m (class_of a h)) (given a h) (used_by a h) cents p
-  EventRule (disbursed a units bank) h = Unit {0}
-  EventRule (lapsed forfeited) h = Unit {0}
   EventRule (closed s) h = CloseRule s
   -- the book is never another ledger's
   EventRule (declined c why) h = number why ≢ 27
+  EventRule _ h = Unit {0}
 
   abbrev pub EachEvent : History M → Type 0
   EachEvent [] = Unit {0}

@@ -45,25 +45,10 @@ number NotInBank = 26
 number ForeignBook = 27
 
 abbrev pub place : Refusal → ℕ
-place WrongSmallest = 0
-place BookHasRecords = 0
-place InPeriod = 0
-place WrongLineCount = 0
 place (LineOutOfRange p) = p
 place (AccountRepeated p) = p
 place (LineOfClosedAccount p) = p
-place PercentagesPass = 0
-place LargePercentagesPass = 0
-place BookTooSmall = 0
-place PeriodsOver = 0
-place ReadingTooLarge = 0
-place ReadingsPass = 0
-place BetweenPeriods = 0
-place BillTooLarge = 0
-place NoOpenAccount = 0
-place BilledAlready = 0
-place NotInBank = 0
-place ForeignBook = 0
+place _ = 0
 
 abbrev pub reason : Refusal → List ℕ
 reason WrongSmallest = codes "the smallest number of lines is neither 1 nor 10"

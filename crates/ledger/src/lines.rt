@@ -2,8 +2,7 @@
 ghost use Rattle.std.specs.Prelude.{◌≡◌, ◌≤◌, ◌==◌, not, [], length};
 ghost use Rattle.std.specs.List.{list_any, position_from};
 ghost use Rattle.accounts.specs.Ranges.{line_in_range};
-ghost use Rattle.ledger.specs.Lines.{line_accounts, repeated_from, large_percentage, has_closed, is_new, names_closed, new_accounts};
-ghost use Rattle.ledger.specs.Records.{record_of};
+ghost use Rattle.ledger.specs.Lines.{line_accounts, repeated_from, large_percentage, is_new, names_closed, new_accounts};
 ghost use Rattle.ledger.specs.Sums.{total};
 
 use super::entries::entry_at;
@@ -69,14 +68,14 @@ pub(crate) fn percentages(lines: &[Line]) -> Sums
 pub(crate) fn first_closed<B: AccountBook>(book: &B, lines: &[Line]) -> Option<usize>
     ensures { B.sound book.now → result ≡ position_from (names_closed (B.contents book.now).records) 0 lines.now }
 {
-    lines.iter().position(|line| is_closed(book, line.account))
+    lines.iter().position(|line| is_closed(book, line))
 }
 
-// Whether an account is closed.
-fn is_closed<B: AccountBook>(book: &B, account: u64) -> bool
-    ensures { B.sound book.now → result ≡ has_closed (record_of account (B.contents book.now).records) }
+// Whether a line's account is closed.
+fn is_closed<B: AccountBook>(book: &B, line: &Line) -> bool
+    ensures { B.sound book.now → result ≡ names_closed (B.contents book.now).records line.now }
 {
-    let Some(place) = book.search(account) else {
+    let Some(place) = book.search(line.account) else {
         return false;
     };
     entry_at(book, place).is_some_and(|entry| entry.holder.state == State::Closed)

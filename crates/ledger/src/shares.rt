@@ -40,6 +40,7 @@ impl Reading {
     {
         let mut percentages: u64 = 0;
         let mut shared: u64 = 0;
+        // a book is read by place: an iterator over it would be one type more for this loop
         for place in 0..book.count() {
             let entry = entry_at(book, place).ok_or(Refusal::ForeignBook)?;
             percentages += u64::from(entry.holder.percentage);

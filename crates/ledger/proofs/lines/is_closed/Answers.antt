@@ -5,4 +5,4 @@ use Rattle.ledger.proofs.lines.is_closed.Goals as goal
 
 pub returns-in_default : goal.returns-in_default
 returns-in_default g c s =
-    sym (ap has_closed (missing c.args.account _ (sym (c.search.ensures s) ∙ c.in_default.is)))
+    sym (ap has_closed (missing c.args.line.now.account _ (sym (c.search.ensures s) ∙ c.in_default.is)))
