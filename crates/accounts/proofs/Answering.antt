@@ -1,5 +1,5 @@
 -- When adding and replacing are accepted.
-use Rattle.std.proofs.Common.{◌≡◌, ℕ, ◌<◌, ◌≤◌, true, false, not, ◌&&◌, ltb, List, length, is_some, Some, sym, ap, ◌∙◌, ⊎_elim}
+use Rattle.std.proofs.Common.{◌≡◌, ℕ, ◌<◌, ◌≤◌, Bool, true, false, not, ◌&&◌, ltb, List, length, is_some, Some, None, Option, sym, ap, ◌∙◌, ⊎_elim}
 use Rattle.std.proofs.lemmas.Bool.{and_from, and_parts, and_left, and_right, lt-ltb, le-ltb, ltb-true, eq-eqb, ne_eqb, both_ways, cases_lt}
 use Rattle.std.proofs.lemmas.Option.{slice_get_past}
 use Rattle.std.specs.List.{slice_get}
@@ -44,3 +44,12 @@ suits_parts rs i r t =
     let p = and_parts (in_range r) (same_account (slice_get rs i) r) t in
     let inside : i < length rs = ⊎_elim (λ h. h) (λ h. absurd (both_ways (suits rs i r) (suits_past rs i r h) t)) (cases_lt i (length rs)) in
     (inside, p.0)
+
+-- a record in range for which there is room is taken where its account is not found
+found_or_taken : (rs : List Record) (room : ℕ) (r : Record) (o : Option ℕ) → length rs < room → in_range r ≡ true → o ≡ find r.account (accounts rs) → not (is_some o) ≡ takes rs room r
+found_or_taken rs room r None n i e = sym (takes_new rs room r n i (sym (ap is_some e)))
+found_or_taken rs room r (Some place) n i e = sym (takes_not_found rs room r (sym (ap is_some e)))
+
+pub takes_by : (rs : List Record) (room : ℕ) (r : Record) (o : Option ℕ) (none : Bool) → length rs < room → in_range r ≡ true → o ≡ find r.account (accounts rs) → is_some o ≡ not none → none ≡ takes rs room r
+takes_by rs room r o true n i e h = sym (ap not h) ∙ found_or_taken rs room r o n i e
+takes_by rs room r o false n i e h = sym (ap not h) ∙ found_or_taken rs room r o n i e

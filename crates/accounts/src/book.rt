@@ -32,6 +32,29 @@ pub trait AccountBook {
     fn search(&self, account: u64) -> Option<usize>
         ensures { sound self.now → result ≡ find account (accounts (contents self.now).records) };
 
+    // Whether a record may be put last: the book has room, the record is in range, and its account is new.
+    fn takes(&self, new: &Record) -> bool
+        ensures { sound self.now → result ≡ takes (contents self.now).records (contents self.now).room new.now }
+    {
+        if self.count() >= self.capacity() {
+            return false;
+        }
+        if !new.in_range() {
+            return false;
+        }
+        self.search(new.account).is_none()
+    }
+
+    // Whether a record may be put at a place: it is in range, and the place has its account already.
+    fn suits(&self, place: usize, new: &Record) -> bool
+        ensures { sound self.now → result ≡ suits (contents self.now).records place new.now }
+    {
+        new.in_range()
+            && self
+                .get(place)
+                .is_some_and(|old| old.account == new.account)
+    }
+
     // Puts a record last; false where the book is full, the record is out of range or the account is present.
     fn add(&mut self, new: Record) -> bool
         ensures answer { sound self.old → result ≡ takes (contents self.old).records (contents self.old).room new }

@@ -110,17 +110,11 @@ impl<'a> AccountBook for ImageBook<'a> {
         ensures after { Left (Sound self.new) (contents_of self.new) (contents_of self.old) (added result (records_of self.old) new) }
         ensures image { Added result self.new self.old new }
     {
-        if self.count >= self.room {
-            return false;
+        let accepted = self.takes(&new);
+        if accepted {
+            self.push(new);
         }
-        if !new.in_range() {
-            return false;
-        }
-        if self.search(new.account).is_some() {
-            return false;
-        }
-        self.push(new);
-        true
+        accepted
     }
 
     fn replace(&mut self, place: usize, new: Record) -> bool
@@ -128,16 +122,10 @@ impl<'a> AccountBook for ImageBook<'a> {
         ensures after { Left (Sound self.new) (contents_of self.new) (contents_of self.old) (replaced result (records_of self.old) place new) }
         ensures image { Replaced result self.new self.old place new }
     {
-        if !new.in_range() {
-            return false;
+        let accepted = self.suits(place, &new);
+        if accepted {
+            self.put(place, new);
         }
-        let Some(old) = self.get(place) else {
-            return false;
-        };
-        if old.account != new.account {
-            return false;
-        }
-        self.put(place, new);
-        true
+        accepted
     }
 }
