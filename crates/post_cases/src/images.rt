@@ -1,18 +1,10 @@
 // Images of a book at their limits: refusals 6 and 7.
 use super::group::Group;
 use super::patch::{Patch, put};
-use super::told::{ACCEPTED, Told, declined, declined_at};
+use super::told::{ACCEPTED, declined, declined_at, told};
 use accounts::record::Record;
-use image_book::checks::{ImageRefusal, check_open, check_start};
+use image_book::checks::{check_open, check_start};
 use record_codec::codec::encode;
-
-fn told(answer: Result<(), ImageRefusal>) -> Told {
-    match answer {
-        Ok(()) => ACCEPTED,
-        Err(ImageRefusal::NoRoom) => declined(6),
-        Err(ImageRefusal::UnfitRecord(place)) => declined_at(7, place),
-    }
-}
 
 fn satellite(account: u64) -> Record {
     Record {
