@@ -8,11 +8,7 @@ pub(crate) fn small(account: u64) -> Record {
         percentage: 10_000,
         savings: 1_000,
         class: 2,
-        size: Size::Small,
-        kind: Kind::Member,
-        state: State::Open,
-        held: 0,
-        last: 0,
+        ..Record::default()
     }
 }
 

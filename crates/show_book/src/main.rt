@@ -9,18 +9,6 @@ use image_book::book::ImageBook;
 use std::io;
 use table_book::TableBook;
 
-const BLANK: Record = Record {
-    account: 0,
-    percentage: 0,
-    savings: 0,
-    class: 0,
-    size: Size::Small,
-    kind: Kind::Member,
-    state: State::Open,
-    held: 0,
-    last: 0,
-};
-
 const SHOP: Record = Record {
     account: 20_010_000_001,
     percentage: 10_000,
@@ -68,16 +56,18 @@ fn print_records<B: AccountBook>(rt: &HostRuntime, title: &str, book: &B) -> io:
     let capacity = book.capacity();
     println!(rt; "{title}: {count} of {capacity}")?;
     for place in 0..count {
-        if let Some(r) = book.get(place) {
-            let account = r.account;
-            let percentage = r.percentage;
-            let savings = r.savings;
-            let class = r.class;
-            let size = r.size;
-            let kind = r.kind;
-            let state = r.state;
-            let held = r.held;
-            let last = r.last;
+        if let Some(record) = book.get(place) {
+            let Record {
+                account,
+                percentage,
+                savings,
+                class,
+                size,
+                kind,
+                state,
+                held,
+                last,
+            } = record;
             println!(rt;
                 "{place} {account} {percentage} {savings} {class} {size:?} {kind:?} {state:?} {held} {last}"
             )?;
@@ -88,29 +78,25 @@ fn print_records<B: AccountBook>(rt: &HostRuntime, title: &str, book: &B) -> io:
 
 // Twelve bytes to a line.
 fn print_bytes(rt: &HostRuntime, bytes: &[u8]) -> io::Result<()> {
-    for (i, b) in bytes.iter().enumerate() {
-        if i % 12 == 0 {
-            print!(rt; "{i:3}:")?;
+    for (i, line) in bytes.chunks(12).enumerate() {
+        let at = i * 12;
+        print!(rt; "{at:3}:")?;
+        for b in line {
+            print!(rt; " {b:02x}")?;
         }
-        print!(rt; " {b:02x}")?;
-        if i % 12 == 11 || i + 1 == bytes.len() {
-            println!(rt; "")?;
-        }
+        println!(rt; "")?;
     }
     Ok(())
 }
 
 fn main(rt: HostRuntime) -> io::Result<()> {
-    let mut table = [BLANK; 3];
+    let mut table = [Record::default(); 3];
     let mut book = TableBook::new(&mut table);
     fill(&mut book);
     print_records(&rt, "table", &book)?;
 
     let mut image = [0xeeu8; 114];
-    image[0] = 0;
-    image[1] = 0;
-    image[2] = 0;
-    image[3] = 0;
+    image[..4].fill(0);
     let mut book = ImageBook::start(&mut image);
     fill(&mut book);
     print_records(&rt, "image", &book)?;
