@@ -8,6 +8,7 @@ use cabinet_month::posting::{Figures, Posting, post, total};
 use crediting::method::CreditMethod;
 use crediting::value_stack::ValueStack;
 use crediting::volumetric::Volumetric;
+use refusals::Numbered;
 use std::alloc::Global;
 use std::fmt::Display;
 

@@ -2,3 +2,4 @@
 #![tactic(auto)]
 
 pub mod codec;
+pub mod numbers;
