@@ -55,7 +55,11 @@ fn repeated_account(rt: HostRuntime) {
     image[40] = 1;
     assert_eq!(rt; check_open(&image), Err(ImageRefusal::UnfitRecord(1)));
     let mut image = whole();
-    image[76..84].copy_from_slice(&2u64.to_le_bytes());
+    image[76] = 2;
+    image[77] = 0;
+    image[78] = 0;
+    image[79] = 0;
+    image[80] = 0;
     assert_eq!(rt; check_open(&image), Err(ImageRefusal::UnfitRecord(2)));
 }
 
