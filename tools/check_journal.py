@@ -1,8 +1,8 @@
 #!/usr/bin/env python3
-"""Posts a journal by a computation of its own and prints the lines that `post_journal` prints.
+"""Posts a journal by a computation of its own and prints the lines that `cabinet` prints.
 
     python3 tools/check_journal.py [--report] JOURNAL > expected
-    post_journal [--report] JOURNAL | diff - expected
+    cabinet [--report] JOURNAL | diff - expected
 
 Request files are looked for in the present folder, and then in the journal's. Nothing here is taken from the program:
 the account book is a dictionary, a credit is found by stepping down from an estimate, and the totals are kept as the

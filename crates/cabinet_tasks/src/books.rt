@@ -40,7 +40,7 @@ pub fn post_file<P: Paper>(rt: &HostRuntime, paper: &P, name: &str) -> anyhow::R
     match fs::read(rt, name) {
         Ok(text) => post_text(rt, paper, folder_of(name), text.as_slice()),
         Err(why) => {
-            eprintln!(rt; "post_journal: {name} cannot be read: {why}")?;
+            eprintln!(rt; "cabinet: {name} cannot be read: {why}")?;
             Ok(Ending::Refused)
         }
     }

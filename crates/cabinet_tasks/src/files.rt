@@ -73,7 +73,7 @@ fn tell_refusal(rt: &HostRuntime, why: WriteRefusal, numbers: &[usize]) -> anyho
     };
     match line {
         Some(number) => eprintln!(rt; "text line {number}: {why}")?,
-        None => eprintln!(rt; "post_journal: {why}")?,
+        None => eprintln!(rt; "cabinet: {why}")?,
     }
     Ok(())
 }

@@ -1,13 +1,13 @@
 // What people are told of journals and options, in one screen.
 pub const HELP: &str = "\
-post_journal [JOURNAL]     posts a journal; with no name it reads standard input
-post_journal --report [JOURNAL]
+cabinet [JOURNAL]          posts a journal; with no name it reads standard input
+cabinet --report [JOURNAL]
                            prints the host's monthly report in place of the log
-post_journal --pack TEXT FILE
+cabinet --pack TEXT FILE
                            writes a request file from a text of lines
                            ACCOUNT PERCENTAGE SAVINGS CLASS SIZE KIND [REMARK ..]
-post_journal --show FILE   prints a request file, or says what is wrong with it
-post_journal --help        prints this
+cabinet --show FILE        prints a request file, or says what is wrong with it
+cabinet --help             prints this
 
 A journal has one statement to a line; blank lines and lines that begin with #
 are skipped. Its first three statements, in this order and nowhere else:

@@ -20,7 +20,7 @@ impl<'a> Progress<'a> {
         let seconds = self.start.elapsed(self.rt)?.as_secs();
         if seconds > self.told {
             self.told = seconds;
-            eprintln!(self.rt; "post_journal: {count} {what}")?;
+            eprintln!(self.rt; "cabinet: {count} {what}")?;
         }
         Ok(())
     }
