@@ -16,28 +16,18 @@ use statements::write::write as write_statement;
 use std::fs;
 use std::str::from_utf8;
 
-const FIELDS: u8 = 6;
+const FIELDS: usize = 6;
 
 // The first word of a line's statement, and a space.
 const LINE_WORD: &str = "line ";
 
-// Where the six fields of a line end.
-fn fields_end(text: &[u8]) -> usize
-    ensures { result ≤ length text.now }
-{
-    let mut fields = 0u8;
-    let mut inside = false;
-    for (place, byte) in text.iter().enumerate() {
-        let space = *byte == b' ';
-        if inside && space {
-            fields = fields.saturating_add(1);
-            if fields == FIELDS {
-                return place;
-            }
-        }
-        inside = !space;
-    }
-    text.len()
+// Where the six fields of a line end: each ends at a space behind a byte that is none.
+fn fields_end(text: &[u8]) -> usize {
+    text.windows(2)
+        .enumerate()
+        .filter(|(_, pair)| pair[0] != b' ' && pair[1] == b' ')
+        .nth(FIELDS - 1)
+        .map_or(text.len(), |(place, _)| place + 1)
 }
 
 // What follows the fields and a space.
