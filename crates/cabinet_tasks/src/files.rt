@@ -1,6 +1,4 @@
 // Packs and shows request files.
-ghost use Rattle.std.specs.Prelude.{◌≤◌, length};
-
 use super::ending::Ending;
 use accounts::record::Line;
 use answer_text::refusal::refusal_line;
@@ -30,6 +28,11 @@ fn fields_end(text: &[u8]) -> usize {
         .map_or(text.len(), |(place, _)| place + 1)
 }
 
+// The six fields of a line.
+fn fields_of(text: &[u8]) -> &[u8] {
+    text.get(..fields_end(text)).unwrap_or(text)
+}
+
 // What follows the fields and a space.
 fn remark_of(text: &[u8]) -> &[u8] {
     text.get(fields_end(text).saturating_add(1)..)
@@ -39,7 +42,7 @@ fn remark_of(text: &[u8]) -> &[u8] {
 // The line that a text's line tells; none where it cannot be understood, which is then told.
 fn line_of(rt: &HostRuntime, number: usize, text: &[u8]) -> anyhow::Result<Option<Line>> {
     let mut statement = Vec::from_slice(rt.alloc(), LINE_WORD.as_bytes())?;
-    statement.extend_from_slice(&text[0..fields_end(text)])?;
+    statement.extend_from_slice(fields_of(text))?;
     match parse(statement.as_slice(), rt.alloc()) {
         Ok(Some(Statement::Line(line))) => Ok(Some(line)),
         Err(ParseError::Expected(what)) => {
