@@ -1,23 +1,61 @@
-// Packs a request file from a text, shows it and a torn one, and prints the report of a quarter that is posted with it.
+// Asks the cabinet for what the year's journal does not: packs and shows request files, prints the report of a quarter and
+// of a farm's project, and gives it texts, files, journals and options with a mistake.
 #![tactic(auto)]
 
-use cabinet_tasks::books::post_file;
-use cabinet_tasks::files::{pack, show};
-use cabinet_tasks::report::Report;
+use cabinet_tasks::arguments::{finish, perform};
+use std::process::ExitCode;
 
-fn main(rt: HostRuntime) -> anyhow::Result<()> {
-    let packed = pack(&rt, "lines.txt", "lines.req")?;
-    println!(rt; "pack lines.txt: {packed}")?;
-    let mistaken = pack(&rt, "mistake.txt", "mistake.req")?;
-    println!(rt; "pack mistake.txt: {mistaken}")?;
-    let shown = show(&rt, "lines.req")?;
-    println!(rt; "show lines.req: {shown}")?;
-    let torn = show(&rt, "torn.req")?;
-    println!(rt; "show torn.req: {torn}")?;
-    for name in ["quarter.journal", "short.journal", "mistake.journal"] {
-        println!(rt; "")?;
-        let posted = post_file(&rt, &Report, name)?;
-        println!(rt; "report {name}: {posted}")?;
+// How a task ended, or what was wrong.
+fn ask(rt: &HostRuntime, words: &[&str]) -> anyhow::Result<()> {
+    print!(rt; "$ cabinet")?;
+    for word in words {
+        print!(rt; " {word}")?;
     }
+    println!(rt; "")?;
+    match perform(rt, words) {
+        Ok(ending) => println!(rt; "{ending}")?,
+        Err(why) => println!(rt; "{why}")?,
+    }
+    println!(rt; "")?;
     Ok(())
+}
+
+// It ends as the cabinet does on a request file that is refused: with status 1.
+fn main(rt: HostRuntime) -> anyhow::Result<ExitCode> {
+    ask(&rt, &["--pack", "lines.txt", "lines.req"])?;
+    ask(&rt, &["--pack", "spaced.txt", "spaced.req"])?;
+    for text in ["mistake.txt", "long.txt", "wide.txt", "none.txt"] {
+        ask(&rt, &["--pack", text, "mistake.req"])?;
+    }
+    for file in ["lines.req", "spaced.req", "mistake.req"] {
+        ask(&rt, &["--show", file])?;
+    }
+    for journal in [
+        "quarter.journal",
+        "short.journal",
+        "mistake.journal",
+        "journals/farm.journal",
+        "journals/five.journal",
+    ] {
+        ask(&rt, &["--report", journal])?;
+    }
+    for journal in [
+        "journals/farm.journal",
+        "journals/narrow.journal",
+        "journals/image.journal",
+        "journals/bytes.journal",
+        "journals/five.journal",
+        "journals/early.journal",
+        "journals/twice.journal",
+        "journals/lost.journal",
+        "journals/nowhere.journal",
+    ] {
+        ask(&rt, &[journal])?;
+    }
+    ask(&rt, &["--pack", "lines.txt"])?;
+    ask(&rt, &["--show"])?;
+    ask(&rt, &["--print"])?;
+    ask(&rt, &["--report", "quarter.journal", "short.journal"])?;
+    ask(&rt, &["--help"])?;
+    finish(&rt, perform(&rt, &["--show", "torn.req"]))
 }

@@ -1,5 +1,6 @@
 // Posts a journal by the method and in the book that its head names.
 use super::ending::Ending;
+use super::files::read_file;
 use super::journals::{folder_of, journal_of};
 use super::paper::Paper;
 use super::progress::Progress;
@@ -17,7 +18,6 @@ use posting::order::{Head, read_head};
 use posting::plan::Plan;
 use posting::rated::Rated;
 use statements::statement::{BookKind, MethodName};
-use std::fs;
 use std::io::Read;
 use table_book::TableBook;
 
@@ -28,25 +28,20 @@ const MOST_IMAGE: u64 = 4 + 36 * MOST_RECORDS;
 // Four slots to a record, so that an account is mostly found at the first look.
 const SLOTS: usize = 16_384;
 
-// Posts the journal that stands on standard input; refused where it cannot be understood.
+// Posts the journal that stands on standard input.
 pub fn post_input<P: Paper>(rt: &HostRuntime, paper: &P) -> anyhow::Result<Ending> {
     let mut text = Vec::new(rt.alloc());
     rt.stdin().read_to_end(&mut text)?;
     post_text(rt, paper, "", text.as_slice())
 }
 
-// Posts the journal in a file; refused where it cannot be read or understood.
+// Posts the journal in a file.
 pub fn post_file<P: Paper>(rt: &HostRuntime, paper: &P, name: &str) -> anyhow::Result<Ending> {
-    match fs::read(rt, name) {
-        Ok(text) => post_text(rt, paper, folder_of(name), text.as_slice()),
-        Err(why) => {
-            eprintln!(rt; "cabinet: {name} cannot be read: {why}")?;
-            Ok(Ending::Refused)
-        }
-    }
+    let text = read_file(rt, name)?;
+    post_text(rt, paper, folder_of(name), text.as_slice())
 }
 
-// Posts a journal's text.
+// Posts a journal's text, once all of it is understood.
 fn post_text<P: Paper>(
     rt: &HostRuntime,
     paper: &P,
@@ -54,27 +49,18 @@ fn post_text<P: Paper>(
     text: &[u8],
 ) -> anyhow::Result<Ending> {
     let mut progress = Progress::start(rt)?;
-    let Some(journal) = journal_of(&mut progress, folder, text)? else {
-        return Ok(Ending::Refused);
-    };
+    let journal = journal_of(&mut progress, folder, text)?;
     let entries = journal.entries.as_slice();
-    match read_head(entries, journal.lines.saturating_add(1)) {
-        Ok(head) => {
-            match head.method {
-                MethodName::ValueStack => {
-                    post_in_book::<ValueStack, P>(&mut progress, paper, head, entries)?
-                }
-                MethodName::Volumetric => {
-                    post_in_book::<Volumetric, P>(&mut progress, paper, head, entries)?
-                }
-            }
-            Ok(Ending::Done)
+    let head = read_head(entries, journal.lines.saturating_add(1))?;
+    match head.method {
+        MethodName::ValueStack => {
+            post_in_book::<ValueStack, P>(&mut progress, paper, head, entries)?
         }
-        Err(mistake) => {
-            eprintln!(rt; "{mistake}")?;
-            Ok(Ending::Refused)
+        MethodName::Volumetric => {
+            post_in_book::<Volumetric, P>(&mut progress, paper, head, entries)?
         }
     }
+    Ok(Ending::Done)
 }
 
 // Posts entries in a new book of the kind that the head names.

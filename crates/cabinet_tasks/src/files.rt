@@ -2,7 +2,7 @@
 use super::ending::Ending;
 use accounts::record::Line;
 use answer_text::refusal::refusal_line;
-use anyhow::anyhow;
+use anyhow::{anyhow, bail};
 use request_writer::entry::Entry;
 use request_writer::refusal::WriteRefusal;
 use request_writer::writer::write;
@@ -11,6 +11,7 @@ use requests::reader::{read, remark};
 use statements::parse::parse;
 use statements::statement::{ParseError, Statement};
 use statements::write::write as write_statement;
+use std::alloc::Global;
 use std::fs;
 use std::str::from_utf8;
 
@@ -39,17 +40,22 @@ fn remark_of(text: &[u8]) -> &[u8] {
         .unwrap_or(&[])
 }
 
-// The line that a text's line tells; none where it cannot be understood, which is then told.
-fn line_of(rt: &HostRuntime, number: usize, text: &[u8]) -> anyhow::Result<Option<Line>> {
-    let mut statement = Vec::from_slice(rt.alloc(), LINE_WORD.as_bytes())?;
+// The bytes of a file.
+pub(crate) fn read_file(rt: &HostRuntime, name: &str) -> anyhow::Result<Vec<u8>> {
+    match fs::read(rt, name) {
+        Ok(bytes) => Ok(bytes),
+        Err(why) => bail!("cabinet: {name} cannot be read: {why}"),
+    }
+}
+
+// The line that a text's line tells.
+fn line_of(heap: Global, number: usize, text: &[u8]) -> anyhow::Result<Line> {
+    let mut statement = Vec::from_slice(heap, LINE_WORD.as_bytes())?;
     statement.extend_from_slice(fields_of(text))?;
-    match parse(statement.as_slice(), rt.alloc()) {
-        Ok(Some(Statement::Line(line))) => Ok(Some(line)),
-        Err(ParseError::Expected(what)) => {
-            eprintln!(rt; "text line {number}: expected {what}")?;
-            Ok(None)
-        }
-        _ => Err(anyhow!("there is no memory for the text")),
+    match parse(statement.as_slice(), heap) {
+        Ok(Some(Statement::Line(line))) => Ok(line),
+        Err(ParseError::Expected(what)) => bail!("text line {number}: expected {what}"),
+        _ => bail!("there is no memory for the text"),
     }
 }
 
@@ -58,51 +64,45 @@ fn tells_nothing(text: &[u8]) -> bool {
     matches!(text.first(), None | Some(b'#'))
 }
 
-// Says why lines cannot be packed, with the line of the text where it is one line's fault.
-fn tell_refusal(rt: &HostRuntime, why: WriteRefusal, numbers: &[usize]) -> anyhow::Result<()> {
+// Why lines cannot be packed, with the line of the text where it is one line's fault.
+fn unpacked(why: WriteRefusal, numbers: &[usize]) -> anyhow::Error {
     let line = match why {
         WriteRefusal::Number { place } | WriteRefusal::Remark { place } => numbers.get(place),
         _ => None,
     };
     match line {
-        Some(number) => eprintln!(rt; "text line {number}: {why}")?,
-        None => eprintln!(rt; "cabinet: {why}")?,
+        Some(number) => anyhow!("text line {number}: {why}"),
+        None => anyhow!("cabinet: {why}"),
     }
-    Ok(())
 }
 
 // Writes a request file from a text of lines and remarks.
 pub fn pack(rt: &HostRuntime, text: &str, file: &str) -> anyhow::Result<Ending> {
-    let text = fs::read_to_string(rt, text)?;
-    let mut entries = Vec::new(rt.alloc());
+    let heap = rt.alloc();
+    let bytes = read_file(rt, text)?;
+    let Ok(lines) = from_utf8(bytes.as_slice()) else {
+        bail!("cabinet: {text} is no text");
+    };
+    let mut entries = Vec::new(heap);
     // beside the entries, which the writer takes as they stand
-    let mut numbers = Vec::new(rt.alloc());
-    for (place, words) in text.as_str().lines().enumerate() {
+    let mut numbers = Vec::new(heap);
+    for (place, words) in lines.lines().enumerate() {
         let words = words.as_bytes();
         if tells_nothing(words) {
             continue;
         }
         let number = place.saturating_add(1);
-        let Some(line) = line_of(rt, number, words)? else {
-            return Ok(Ending::Refused);
-        };
+        let line = line_of(heap, number, words)?;
         let remark = remark_of(words);
         entries.push(Entry { line, remark })?;
         numbers.push(number)?;
     }
-    match write(entries.as_slice(), rt.alloc()) {
-        Ok(bytes) => {
-            fs::write(rt, file, bytes.as_slice())?;
-            let lines = entries.len();
-            let size = bytes.len();
-            println!(rt; "{file}: {lines} lines, {size} bytes")?;
-            Ok(Ending::Done)
-        }
-        Err(why) => {
-            tell_refusal(rt, why, numbers.as_slice())?;
-            Ok(Ending::Refused)
-        }
-    }
+    let packed = write(entries.as_slice(), heap).map_err(|why| unpacked(why, numbers.as_slice()))?;
+    fs::write(rt, file, packed.as_slice())?;
+    let lines = entries.len();
+    let size = packed.len();
+    println!(rt; "{file}: {lines} lines, {size} bytes")?;
+    Ok(Ending::Done)
 }
 
 // Prints a line in the form in which it is packed: as a journal's statement, without its first word.
@@ -125,7 +125,7 @@ fn show_line(rt: &HostRuntime, file: &[u8], place: usize, line: &Line) -> anyhow
 
 // Prints the lines of a request file with their remarks, or why it is refused.
 pub fn show(rt: &HostRuntime, name: &str) -> anyhow::Result<Ending> {
-    let bytes = fs::read(rt, name)?;
+    let bytes = read_file(rt, name)?;
     let file = bytes.as_slice();
     let mut table = vec![in rt.alloc(); Line::default(); MAX_LINES]?;
     match read(file, table.as_mut_slice()) {

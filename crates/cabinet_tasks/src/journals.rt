@@ -1,6 +1,6 @@
 // Reads a journal with the request files that it names.
 use super::progress::Progress;
-use journal_text::entries::{Journal, JournalFault, read_journal};
+use journal_text::entries::{Journal, read_journal};
 use posting::entry::Entry;
 use posting::mistake::Mistake;
 use statements::statement::Statement;
@@ -24,47 +24,29 @@ fn request_bytes(rt: &HostRuntime, folder: &str, name: &str) -> anyhow::Result<O
     Ok(fs::read(rt, beside.as_str()).ok())
 }
 
-// Reads the request files that entries name, up to the first that cannot be read, which is a mistake of its line.
-fn read_requests(
-    rt: &HostRuntime,
-    folder: &str,
-    entries: &mut [Entry],
-) -> anyhow::Result<Option<Mistake<&'static str>>> {
+// Reads the request files that entries name; one that cannot be read is a mistake of its line.
+fn read_requests(rt: &HostRuntime, folder: &str, entries: &mut [Entry]) -> anyhow::Result<()> {
     for entry in entries.iter_mut() {
         if let Statement::Request(name) = &entry.statement {
-            match request_bytes(rt, folder, name.as_str())? {
-                Some(bytes) => entry.file = bytes,
-                None => {
-                    return Ok(Some(Mistake {
-                        line: entry.line,
-                        wanted: "a request file that can be read",
-                    }));
-                }
-            }
+            let bytes = request_bytes(rt, folder, name.as_str())?;
+            entry.file = bytes.ok_or(Mistake {
+                line: entry.line,
+                wanted: "a request file that can be read",
+            })?;
         }
     }
-    Ok(None)
+    Ok(())
 }
 
-// The journal of a text with its request files; none where it is no journal, which is then told.
+// The journal of a text with its request files.
 pub(crate) fn journal_of(
     progress: &mut Progress,
     folder: &str,
     text: &[u8],
-) -> anyhow::Result<Option<Journal>> {
+) -> anyhow::Result<Journal> {
     let rt = progress.rt;
-    let mut journal = match read_journal(text, rt.alloc()) {
-        Ok(journal) => journal,
-        Err(JournalFault::Line(mistake)) => {
-            eprintln!(rt; "{mistake}")?;
-            return Ok(None);
-        }
-        Err(why) => return Err(why.into()),
-    };
+    let mut journal = read_journal(text, rt.alloc())?;
     progress.tell(journal.lines, "lines are read")?;
-    if let Some(mistake) = read_requests(rt, folder, journal.entries.as_mut_slice())? {
-        eprintln!(rt; "{mistake}")?;
-        return Ok(None);
-    }
-    Ok(Some(journal))
+    read_requests(rt, folder, journal.entries.as_mut_slice())?;
+    Ok(journal)
 }

@@ -1,6 +1,7 @@
 // What the cabinet does: posts journals, prints the host's monthly report, packs and shows request files.
 #![tactic(auto)]
 
+pub mod arguments;
 pub mod books;
 pub mod ending;
 pub mod files;

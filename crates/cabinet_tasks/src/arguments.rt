@@ -1,0 +1,41 @@
+// What the words behind the program's name ask for.
+use super::books::{post_file, post_input};
+use super::ending::Ending;
+use super::files::{pack, show};
+use super::help::HELP;
+use super::log::Log;
+use super::report::Report;
+use anyhow::bail;
+use std::process::ExitCode;
+
+const EXPLAINED: &str = "cabinet --help explains";
+
+pub fn perform(rt: &HostRuntime, words: &[&str]) -> anyhow::Result<Ending> {
+    match *words {
+        [] => post_input(rt, &Log),
+        ["--help"] => {
+            rt.print(HELP)?;
+            Ok(Ending::Done)
+        }
+        ["--report"] => post_input(rt, &Report),
+        ["--report", name] => post_file(rt, &Report, name),
+        ["--pack", text, file] => pack(rt, text, file),
+        ["--show", file] => show(rt, file),
+        [name] if !name.starts_with("--") => post_file(rt, &Log, name),
+        ["--pack", ..] => bail!("cabinet: --pack takes a text and a file; {EXPLAINED}"),
+        ["--show", ..] => bail!("cabinet: --show takes a file; {EXPLAINED}"),
+        [name] => bail!("cabinet: there is no option {name}; {EXPLAINED}"),
+        _ => bail!("cabinet: too many words; {EXPLAINED}"),
+    }
+}
+
+// The status of the program; what could not be understood, read or done is told on standard error.
+pub fn finish(rt: &HostRuntime, end: anyhow::Result<Ending>) -> anyhow::Result<ExitCode> {
+    match end {
+        Ok(ending) => Ok(ending.into()),
+        Err(why) => {
+            eprintln!(rt; "{why}")?;
+            Ok(ExitCode::FAILURE)
+        }
+    }
+}
