@@ -66,8 +66,8 @@ module _ {M : Type 0} (worth : M → ℕ → ℕ → ℕ) where
     pub answers_told : map answer_of history ≡ reverse said
     pub law : Law history s
 
-  -- a run from a state at which a ledger was opened: the state that it leaves and its answers are those of performing the
-  -- calls one by one, and they keep the law
+  -- a run from a state at which a ledger was opened: the state that it leaves and its answers are those of performing
+  -- the calls one by one, and they keep the law
   pub record Ran (start : State) (calls : List (Call M)) (said : List (Result Done Refusal)) (end : State) : Type 0 where
     pub performed : end ≡ after worth start calls
     pub answered : said ≡ answers worth start calls
