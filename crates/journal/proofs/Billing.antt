@@ -1,5 +1,5 @@
 -- A bill and a final bill keep what stands, and each bill keeps its rule.
-use Rattle.std.proofs.Common.{◌≡◌, ℕ, ◌+◌, ◌-◌, ◌*◌, ◌≤◌, true, false, cond, eqb, ltb, ◌≢◌, List, ◌∷◌, length, Some, None, Ok, Err, Option, Result, refl, ap, subst₂, arith}
+use Rattle.std.proofs.Common.{◌≡◌, ℕ, ◌+◌, ◌-◌, ◌*◌, ◌≤◌, true, false, cond, eqb, ltb, ◌≢◌, List, ◌∷◌, length, Some, None, Ok, Err, Option, Result, refl, ap, subst₂, arith, sum_by}
 use Rattle.std.proofs.lemmas.Bool.{cond_both, cond-false, cond-true, eq-eqb, le-ltb, ltb-false}
 use Rattle.accounts.specs.declared.record.Record.{Record}
 use Rattle.crediting.specs.Fewest.{used_within}
@@ -15,7 +15,6 @@ use Rattle.ledger.specs.Refusals.{number}
 use Rattle.ledger.specs.Rules.{counted}
 use Rattle.ledger.specs.States.{State}
 use Rattle.ledger.specs.Steps.{bill, bill_judged, final_bill, final_judged, judge_bill, judge_record, posting}
-use Rattle.ledger.specs.Sums.{total}
 use Rattle.journal.specs.Histories as history
 use Rattle.journal.specs.Histories.{Event, History, class_of, disbursed_to, given, of_account, percentage_of, shares_of, used_by}
 use Rattle.ledger.specs.Phases.{fees_in}
@@ -37,8 +36,8 @@ record Billable (account cents period : ℕ) (rs : List Record) (r : Record) : T
 
 -- what the records come to with n, billed in the period, in the place of r
 record Replaced (period : ℕ) (n r : Record) (rs : List Record) : Type 0 where
-  held : total (λ x. x.held) (put n rs) + r.held ≡ total (λ x. x.held) rs + n.held
-  whole : total (λ x. x.percentage) (put n rs) + r.percentage ≡ total (λ x. x.percentage) rs + n.percentage
+  held : sum_by (λ x. x.held) (put n rs) + r.held ≡ sum_by (λ x. x.held) rs + n.held
+  whole : sum_by (λ x. x.percentage) (put n rs) + r.percentage ≡ sum_by (λ x. x.percentage) rs + n.percentage
   size : length (put n rs) ≡ length rs
   count : billed_in period (put n rs) ≡ billed_in period rs + 1
 

@@ -1,5 +1,5 @@
 -- An enrolment keeps what stands.
-use Rattle.std.proofs.Common.{◌≡◌, ℕ, ◌+◌, ◌≤◌, List, map, length, vec_items, Vec, refl, arith}
+use Rattle.std.proofs.Common.{◌≡◌, ℕ, ◌+◌, ◌≤◌, List, map, length, vec_items, Vec, refl, arith, sum_by}
 use Rattle.std.proofs.lemmas.List.{length-map}
 use Rattle.std.specs.declared.alloc.Global.{Global}
 use Rattle.accounts.specs.declared.record.Line.{Line}
@@ -10,7 +10,6 @@ use Rattle.ledger.specs.Lines.{enrolled, new_accounts}
 use Rattle.ledger.specs.Records.{record_of, unallocated}
 use Rattle.ledger.specs.States.{State}
 use Rattle.ledger.specs.Steps.{enrol, enrol_judged}
-use Rattle.ledger.specs.Sums.{total}
 use Rattle.journal.specs.Histories as history
 use Rattle.journal.specs.Histories.{History, class_of, disbursed_to, percentage_of, shares_of, used_by}
 use Rattle.journal.proofs.Entering.{entered_found, entered_held, entered_length, entered_percentages}
@@ -24,8 +23,8 @@ use Rattle.ledger.proofs.Totals.{total_map, total_nothing}
 -- what the records come to
 record Entered (rs : List Record) (ls : List Line) : Type 0 where
   size : length (enrolled rs ls) ≤ length rs + new_accounts rs ls
-  whole : total (λ r. r.percentage) (enrolled rs ls) ≤ total (λ l. l.percentage) ls
-  held : total (λ r. r.held) (enrolled rs ls) ≡ total (λ r. r.held) rs
+  whole : sum_by (λ r. r.percentage) (enrolled rs ls) ≤ sum_by (λ l. l.percentage) ls
+  held : sum_by (λ r. r.held) (enrolled rs ls) ≡ sum_by (λ r. r.held) rs
 
 entered : (rs : List Record) (ls : List Line) → Entered rs ls
 entered rs ls =

@@ -1,5 +1,5 @@
 -- A reading and a disbursement keep what stands.
-use Rattle.std.proofs.Common.{◌≡◌, ℕ, ◌+◌, ◌-◌, ◌≤◌, false, ◌||◌, eqb, ltb, leb, List, [], ◌∷◌, map, Some, None, Option, refl, ap, ◌∙◌, mul-le-mul_left, arith}
+use Rattle.std.proofs.Common.{◌≡◌, ℕ, ◌+◌, ◌-◌, ◌≤◌, false, ◌||◌, eqb, ltb, leb, List, [], ◌∷◌, map, Some, None, Option, refl, ap, ◌∙◌, mul-le-mul_left, arith, sum_by}
 use Rattle.std.proofs.lemmas.List.{length-map}
 use Rattle.std.proofs.lemmas.Bool.{cond-false, cond-true, eq-eqb, le-ltb, ltb-false, or_from, or_parts}
 use Rattle.std.specs.List.{list_any}
@@ -13,7 +13,6 @@ use Rattle.ledger.specs.Records.{gaining, holding, is_closed, put, record_of}
 use Rattle.ledger.specs.Rules.{share}
 use Rattle.ledger.specs.States.{State, Outcome, performed}
 use Rattle.ledger.specs.Steps.{disburse, disburse_to, foreign_to_reading, reading, shares}
-use Rattle.ledger.specs.Sums.{total}
 use Rattle.journal.specs.Histories as history
 use Rattle.journal.specs.Histories.{History, class_of, disbursed_to, given, percentage_of, shares_of, used_by}
 use Rattle.ledger.specs.Phases.{fees_in}
@@ -23,17 +22,17 @@ use Rattle.journal.proofs.Ties.{found_tie, gain_tie, held_tie, put_ties, tied_sa
 use Rattle.ledger.proofs.Totals.{shares_within, total_map, total_plus}
 
 -- no element passes what all are together
-none_pass : {X : Type 0} (f : X → ℕ) (xs : List X) (n : ℕ) → total f xs ≤ n → list_any (λ x. ltb n (f x)) xs ≡ false
+none_pass : {X : Type 0} (f : X → ℕ) (xs : List X) (n : ℕ) → sum_by f xs ≤ n → list_any (λ x. ltb n (f x)) xs ≡ false
 none_pass f [] n h = refl
 none_pass f (x ∷ xs) n h = or_from (ltb n (f x)) _ (le-ltb n (f x) (omega arith)) (none_pass f xs n (omega arith))
 
 -- the shares of a reading are within it
-shares_fit : (units : ℕ) (rs : List Record) → total (λ r. r.percentage) rs ≤ 100000 → shares units rs ≤ units
+shares_fit : (units : ℕ) (rs : List Record) → sum_by (λ r. r.percentage) rs ≤ 100000 → shares units rs ≤ units
 shares_fit units rs whole =
-    omega (arith, shares_within units (λ (r : Record). r.percentage) rs, mul-le-mul_left {m = total (λ r. r.percentage) rs} {n = 100000} units whole)
+    omega (arith, shares_within units (λ (r : Record). r.percentage) rs, mul-le-mul_left {m = sum_by (λ r. r.percentage) rs} {n = 100000} units whole)
 
 -- what the records hold after it
-gained_held : (units : ℕ) (rs : List Record) → total (λ r. r.held) (map (gaining units) rs) ≡ total (λ r. r.held) rs + shares units rs
+gained_held : (units : ℕ) (rs : List Record) → sum_by (λ r. r.held) (map (gaining units) rs) ≡ sum_by (λ r. r.held) rs + shares units rs
 gained_held units rs = total_map (λ r. r.held) (gaining units) rs ∙ total_plus (λ r. r.held) (λ r. share units r.percentage) rs
 
 -- what an accepted reading leaves
@@ -49,7 +48,7 @@ moved s units r =
     (Disbursed (s.bank - units))
 
 module _ {M : Type 0} (worth : M → ℕ → ℕ → ℕ) where
-  held_within : (h : History M) (s : State) → Stands worth h s → s.bank + total (λ r. r.held) s.records ≤ s.read
+  held_within : (h : History M) (s : State) → Stands worth h s → s.bank + sum_by (λ r. r.held) s.records ≤ s.read
   held_within h s i = omega (arith, i.law.units, i.readings)
 
   -- a book of this run is never another ledger's

@@ -1,5 +1,5 @@
 -- What stands after every call of a run: the law so far, and what ties the ledger and its records to the history.
-use Rattle.std.proofs.Common.{◌≡◌, ℕ, ◌+◌, ◌*◌, ◌≤◌, Bool, false, cond, eqb, ◌≢◌, List, [], ◌∷◌, length, Option, sym, refl, ap, subst, arith}
+use Rattle.std.proofs.Common.{◌≡◌, ℕ, ◌+◌, ◌*◌, ◌≤◌, Bool, false, cond, eqb, ◌≢◌, List, [], ◌∷◌, length, Option, sym, refl, ap, subst, arith, sum_by}
 use Rattle.std.proofs.lemmas.Bool.{cond_both, cond-false}
 use Rattle.accounts.specs.declared.record.Record.{Record}
 use Rattle.ledger.specs.declared.call.Call.{Call}
@@ -11,7 +11,6 @@ use Rattle.ledger.specs.Records.{record_of}
 use Rattle.ledger.specs.Refusals.{number}
 use Rattle.ledger.specs.States.{State, Outcome, declined}
 use Rattle.ledger.specs.Steps.{opened, lapse, close}
-use Rattle.ledger.specs.Sums.{total}
 use Rattle.journal.specs.Histories as history
 use Rattle.journal.specs.Histories.{Event, History, answer_of, call_of, class_of, disbursed_to, given, percentage_of, shares_of, units_read, used_by}
 use Rattle.ledger.specs.Phases.{fees_in}
@@ -21,7 +20,7 @@ use Rattle.journal.proofs.Ties.{Tied}
 
 -- how many records were billed in a period
 abbrev pub billed_in : ℕ → List Record → ℕ
-billed_in period rs = total (λ r. cond (eqb r.last period) 1 0) rs
+billed_in period rs = sum_by (λ r. cond (eqb r.last period) 1 0) rs
 
 -- an open period's fees are at least a fiftieth of its applied credits, which are at most 10^9 for each record billed
 pub record InBounds (applied fees billed : ℕ) : Type 0 where
@@ -46,8 +45,8 @@ module _ {M : Type 0} (worth : M → ℕ → ℕ → ℕ) where
   pub record Stands (h : History M) (s : State) : Type 0 where
     pub fits : length s.records ≤ s.room
     pub few : s.room ≤ 4096
-    pub whole : total (λ r. r.percentage) s.records ≤ 100000
-    pub readings : s.read ≡ total units_read h
+    pub whole : sum_by (λ r. r.percentage) s.records ≤ 100000
+    pub readings : s.read ≡ sum_by units_read h
     pub within : s.read ≤ 1_000_000_000_000
     pub bounds : Bounds s.phase (billed_in (s.closed + 1) s.records)
     pub ties : (a : ℕ) → Ties h a (record_of a s.records)

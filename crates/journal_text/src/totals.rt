@@ -1,6 +1,5 @@
 // What the calls of a journal come to together.
-ghost use Rattle.std.specs.Prelude.{◌≡◌};
-ghost use Rattle.ledger.specs.Sums.{total};
+ghost use Rattle.std.specs.Prelude.{◌≡◌, sum_by};
 ghost use Rattle.ledger.specs.Phases.{fees_in};
 ghost use Rattle.journal_text.specs.Totals.{units_of, cents_of};
 
@@ -17,7 +16,7 @@ pub fn unit_totals<M, B: AccountBook>(
     calls: &[Call<M>],
     answers: &[Result<Done, Refusal>],
 ) -> UnitTotals
-    ensures { B.sound book.now → result ≡ units_of ledger.now.bank (total (λ x. x.held) (B.contents book.now).records) calls.now answers.now }
+    ensures { B.sound book.now → result ≡ units_of ledger.now.bank (sum_by (λ x. x.held) (B.contents book.now).records) calls.now answers.now }
 {
     UnitTotals {
         read: sum(Amount::Read, calls, answers),

@@ -1,6 +1,5 @@
 // Sums over calls and their answers.
-ghost use Rattle.std.specs.Prelude.{◌≡◌};
-ghost use Rattle.ledger.specs.Sums.{total};
+ghost use Rattle.std.specs.Prelude.{◌≡◌, sum_by};
 ghost use Rattle.posting.specs.Amounts.{of_bill, of_close, of_lapse, of_call, amount, sum_of};
 
 use accounts::book::AccountBook;
@@ -92,7 +91,7 @@ pub fn sum<M>(amount: Amount, calls: &[Call<M>], answers: &[Result<Done, Refusal
 // The units held in all records; a book gives them by their places.
 #[tactic(auto, using(crate::proofs::Summing::held_more))]
 pub fn held<B: AccountBook>(book: &B) -> u128
-    ensures { B.sound book.now → result ≡ total (λ x. x.held) (B.contents book.now).records }
+    ensures { B.sound book.now → result ≡ sum_by (λ x. x.held) (B.contents book.now).records }
 {
     let mut units = 0u128;
     for place in 0..book.count() {
