@@ -1,6 +1,7 @@
 -- What stands after every call of a run: the law so far, and what ties the ledger and its records to the history.
 use Rattle.std.proofs.Common.{◌≡◌, ℕ, ◌+◌, ◌*◌, ◌≤◌, Bool, false, cond, eqb, ◌≢◌, List, [], ◌∷◌, length, Option, sym, refl, ap, subst, arith, sum_by}
 use Rattle.std.proofs.lemmas.Bool.{cond_both, cond-false}
+use Rattle.std.proofs.lemmas.List.Sums.{sum_by-cons}
 use Rattle.accounts.specs.declared.record.Record.{Record}
 use Rattle.ledger.specs.declared.call.Call.{Call}
 use Rattle.ledger.specs.declared.call.Call.TheVariants as call
@@ -86,11 +87,11 @@ module _ {M : Type 0} (worth : M → ℕ → ℕ → ℕ) where
           fits = i.fits;
           few = i.few;
           whole = i.whole;
-          readings = omega arith;
+          readings = omega (arith, sum_by-cons {X = Event M});
           within = i.within;
           bounds = i.bounds;
           ties = i.ties;
-          law = record { units = omega arith; cents = omega arith; each = (other, i.law.each) };
+          law = record { units = omega (arith, sum_by-cons {X = Event M}); cents = omega (arith, sum_by-cons {X = Event M}); each = (other, i.law.each) };
         };
       }
 
@@ -113,11 +114,11 @@ module _ {M : Type 0} (worth : M → ℕ → ℕ → ℕ) where
           fits = i.fits;
           few = i.few;
           whole = i.whole;
-          readings = omega arith;
+          readings = omega (arith, sum_by-cons {X = Event M});
           within = i.within;
           bounds = i.bounds;
           ties = i.ties;
-          law = record { units = omega (arith, i.law); cents = omega (arith, i.law); each = (tt, i.law.each) };
+          law = record { units = omega (arith, sum_by-cons {X = Event M}, i.law); cents = omega (arith, sum_by-cons {X = Event M}, i.law); each = (tt, i.law.each) };
         };
       }
 
@@ -136,13 +137,13 @@ module _ {M : Type 0} (worth : M → ℕ → ℕ → ℕ) where
           fits = i.fits;
           few = i.few;
           whole = i.whole;
-          readings = omega arith;
+          readings = omega (arith, sum_by-cons {X = Event M});
           within = i.within;
           bounds = tt;
           ties = i.ties;
           law = record {
-            units = omega (arith, i.law);
-            cents = omega (arith, i.law);
+            units = omega (arith, sum_by-cons {X = Event M}, i.law);
+            cents = omega (arith, sum_by-cons {X = Event M}, i.law);
             each = (record { covered = most; rest = omega arith }, i.law.each);
           };
         };
