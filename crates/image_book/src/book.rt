@@ -38,8 +38,8 @@ impl<'a> ImageBook<'a> {
         }
     }
 
-    // The book that an image holds; an unfit image stays as it is, and makes a book of no room. A book whose image is opened
-    // again comes back.
+    // The book that an image holds; an unfit image stays as it is, and makes a book of no room. A book whose image is
+    // opened again comes back.
     pub fn open(image: &'a mut [u8]) -> ImageBook<'a>
         ensures image { image_of result ≡ image.old }
         ensures count { result.count ≡ opened_count image.old }

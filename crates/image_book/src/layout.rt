@@ -5,12 +5,11 @@ ghost use Rattle.record_codec.specs.Bytes.{written};
 ghost use Rattle.record_codec.specs.Codec.{encoded};
 ghost use Rattle.image_book.specs.Images.{count_at, capacity_of, start_of, slots_in, record_at, account_in};
 
+use accounts::limits::MOST_RECORDS;
 use accounts::record::Record;
 use record_codec::codec::{RECORD_BYTES, decode, encode};
 
 const COUNT_BYTES: usize = 4;
-
-const MOST_RECORDS: usize = 4_096;
 
 // The count in the first four bytes, or nothing where there are fewer.
 pub(crate) fn count(image: &[u8]) -> Option<usize>

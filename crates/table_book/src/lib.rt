@@ -6,9 +6,8 @@ ghost use Rattle.std.specs.List.{slice_get};
 ghost use Rattle.accounts.specs.Books.{accounts, find, present, takes, added, suits, replaced, Proper, Left};
 
 use accounts::book::AccountBook;
+use accounts::limits::MOST_RECORDS;
 use accounts::record::Record;
-
-const MOST_RECORDS: usize = 4_096;
 
 // The first `count` places of the table are the book; the places after them keep what they held.
 #[derive(Drop)]
