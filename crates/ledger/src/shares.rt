@@ -11,9 +11,10 @@ use super::call::{Done, Refusal};
 use super::entries::{entry_at, replace_each};
 use super::entry::Entry;
 use super::ledger::Ledger;
-use super::limits::{MOST_PERIODS, MOST_READING, WHOLE};
+use super::limits::{MOST_READING, WHOLE};
 use super::phase::Phase;
 use accounts::book::AccountBook;
+use accounts::limits::MOST_PERIODS;
 use accounts::record::Record;
 use crediting::credit::MOST_UNITS;
 
