@@ -26,10 +26,7 @@ number_small bs at w n h = grind (arith, nat_tests, number_lt)
 -- what follows from a part that is in order
 thus : {A B E : Type 0} (r : Result A E) (f : A → Result B E) (b : B) (P : Type 0) → ((a : A) → r ≡ Ok a → f a ≡ Ok b → P) → then r f ≡ Ok b → P
 thus (Ok a) f b P g h = g a refl h
-thus (Err e) f b P g h = absurd (no_fault b e h)
-
-held : (l : Line) → l.account < 10 ^ 11 → l.percentage < 10 ^ 6 → l.savings < 10 ^ 4 → l.class < 10 ^ 2 → holds l ≡ true
-held l a p s c = grind (arith, nat_tests)
+thus (Err e) f b P g h = cc
 
 ok_value : {A E : Type 0} (a b : A) → ◌≡◌ {A = Result A E} (Ok a) (Ok b) → a ≡ b
 ok_value a b h = cc
@@ -44,12 +41,15 @@ line_small bs l =
     thus (number_at bs 24 2) _ l P (λ class c. thus (space_at bs 26) _ l P (λ _ _.
     thus (letter (size_of (get_or bs 27 0))) _ l P (λ size _. thus (space_at bs 28) _ l P (λ _ _.
     thus (letter (kind_of (get_or bs 29 0))) _ l P (λ kind _. thus (remark_space bs) _ l P (λ _ _ is.
-    let v : Line = record { account = account; percentage = percentage; savings = savings; class = class; size = size; kind = kind } in
-    subst (λ x. holds x ≡ true) (ok_value v l is) (held v (number_small bs 0 11 account a) (number_small bs 12 6 percentage p) (number_small bs 19 4 savings s) (number_small bs 24 2 class c))))))))))))))
+    let account-fits = number_small bs 0 11 account a in
+    let percentage-fits = number_small bs 12 6 percentage p in
+    let savings-fits = number_small bs 19 4 savings s in
+    let class-fits = number_small bs 24 2 class c in
+    subst (λ x. holds x ≡ true) (ok_value _ l is) (grind (arith, nat_tests))))))))))))))
 
 line_fits : (place : ℕ) (r : Result Line FieldFault) (l : Line) → of_line place r ≡ Ok l → r ≡ Ok l
-line_fits place (Ok x) l h = ap Ok (ok_value x l h)
-line_fits place (Err e) l h = absurd (no_fault l _ h)
+line_fits place (Ok x) l h = cc
+line_fits place (Err e) l h = cc
 
 -- what a pair that fits tells
 record Pairs (limit start : ℕ) (p : Pair) : Type 0 where

@@ -11,6 +11,7 @@ use Rattle.accounts.specs.declared.record.Kind.{Kind}
 use Rattle.accounts.specs.declared.record.Kind.TheVariants.{Member, Anchor}
 use Rattle.accounts.specs.Marks.{size_letter, size_text, kind_letter, kind_text}
 use Rattle.request_writer.specs.Packing.{digits, form, holds}
+use Rattle.request_writer.proofs.Fields.{widths}
 
 -- what `{n:0w}` writes
 abbrev pub padded : ℕ → ℕ → List ℕ
@@ -61,9 +62,6 @@ letters Large Anchor = refl
 pub form_padded : (l : Line) → holds l ≡ true → padded 11 l.account ++ (codes " " ++ (padded 6 l.percentage ++ (codes " " ++ (padded 4 l.savings ++ (codes " " ++ (padded 2 l.class ++ (codes " " ++ (size_text l.size ++ (codes " " ++ kind_text l.kind))))))))) ≡ form l
 unfolding form
 form_padded l h =
-    let account : l.account < 10 ^ 11 = grind (arith, nat_tests) in
-    let percentage : l.percentage < 10 ^ 6 = grind (arith, nat_tests) in
-    let savings : l.savings < 10 ^ 4 = grind (arith, nat_tests) in
-    let class : l.class < 10 ^ 2 = grind (arith, nat_tests) in
-    rw (padded_digits 11 l.account (omega arith) account (omega arith), padded_digits 6 l.percentage (omega arith) percentage (omega arith), padded_digits 4 l.savings (omega arith) savings (omega arith), padded_digits 2 l.class (omega arith) class (omega arith), letters l.size l.kind)
+    let w = widths l h in
+    rw (padded_digits 11 l.account (omega arith) w.account (omega arith), padded_digits 6 l.percentage (omega arith) w.percentage (omega arith), padded_digits 4 l.savings (omega arith) w.savings (omega arith), padded_digits 2 l.class (omega arith) w.class (omega arith), letters l.size l.kind)
     (simp append_assoc)

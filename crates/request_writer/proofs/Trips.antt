@@ -13,7 +13,7 @@ use Rattle.requests.proofs.Readings.{cond_ok}
 use Rattle.request_writer.specs.declared.refusal.WriteRefusal.{WriteRefusal}
 use Rattle.request_writer.specs.declared.refusal.WriteRefusal.TheVariants as refusal
 use Rattle.request_writer.specs.declared.entry.Entry.{Entry}
-use Rattle.request_writer.specs.Packing.{Item, item, form, text, holds, pairs, file_of, items_from, packing, sized, ReadsBack}
+use Rattle.request_writer.specs.Packing.{Item, item, form, digits, text, holds, pairs, file_of, items_from, packing, sized, ReadsBack}
 use Rattle.request_writer.proofs.Texts.{length_form, length_text}
 use Rattle.request_writer.proofs.Checks.{size, length_file, length_pairs, text_most}
 use Rattle.request_writer.proofs.Fields.{text_back}
@@ -59,10 +59,8 @@ lines_back file k at p (e ∷ es) s h =
 
 -- what stands behind byte 30 of a line
 tail_back : (l : Line) (b : ℕ) (r more : List ℕ) → drop 31 (text (l, b ∷ r) ++ more) ≡ (b ∷ r) ++ more
-unfolding text
-tail_back l b r more =
-    let long : length (form l ++ 32 ∷ []) ≡ 31 = rw (length_push, length_form) in
-    ap (drop 31) (append_assoc (form l) (32 ∷ b ∷ r) more ∙ sym (append_assoc (form l) (32 ∷ []) ((b ∷ r) ++ more))) ∙ drop_at (form l ++ 32 ∷ []) ((b ∷ r) ++ more) 31 long
+unfolding text form digits
+tail_back l b r more = refl
 
 -- the remark of a line that stands in the file
 remark_here : (file more : List ℕ) (at : ℕ) (l : Line) (r : List ℕ) → drop at file ≡ text (l, r) ++ more → (remark_of file (record { offset = at; length = length (text (l, r)) })).0 ≡ r
@@ -152,4 +150,4 @@ numbers_at p (e ∷ es) h (suc k) d l = numbers_at (p + 1) es (items_split p (it
 
 pub refused_by_size : (r : Result (List ℕ) WriteRefusal) (e : WriteRefusal) → Err e ≡ sized r → r ≡ Err e
 refused_by_size (Ok file) e h = cc
-refused_by_size (Err f) e h = let same : f ≡ e = cc in ap Err same
+refused_by_size (Err f) e h = cc
