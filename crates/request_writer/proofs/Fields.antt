@@ -11,7 +11,7 @@ use Rattle.accounts.specs.declared.record.Kind.TheVariants.{Member, Anchor}
 use Rattle.requests.specs.Form.{all_digits, number, number_at, letter, remark_space, line_of}
 use Rattle.accounts.specs.Marks.{size_of, size_letter, kind_of, kind_letter}
 use Rattle.requests.proofs.Numerals.{digit_true}
-use Rattle.request_writer.specs.Packing.{Item, digits, form, behind, text, holds}
+use Rattle.request_writer.specs.Packing.{Item, digits, form, text, holds}
 use Rattle.request_writer.proofs.Texts.{length_digits}
 
 -- the digits of a number that they hold write that number

@@ -1,20 +1,17 @@
 -- Reading what was packed gives it back.
-use Rattle.std.proofs.Common.{◌≡◌, ℕ, zero, suc, ◌+◌, ◌-◌, ◌*◌, ◌<◌, ◌≤◌, true, ◌||◌, eqb, ltb, List, [], ◌∷◌, ◌++◌, map, length, get_or, drop, Some, IsOk, Ok, Err, Result, sym, refl, ap, ◌∙◌, add-zero, zero-add, arith}
+use Rattle.std.proofs.Common.{◌≡◌, ℕ, zero, suc, ◌+◌, ◌-◌, ◌*◌, ◌<◌, ◌≤◌, true, List, [], ◌∷◌, ◌++◌, map, length, get_or, drop, Some, IsOk, Ok, Err, Result, sym, refl, ap, ◌∙◌, add-zero, zero-add, arith}
 use Rattle.std.specs.List.{flat_map}
 use Rattle.std.specs.Option.{option_map}
-use Rattle.std.proofs.lemmas.List.{append_assoc, append-nil, length-append, length_push, length-map, drop-drop, drop_at, take_at}
+use Rattle.std.proofs.lemmas.List.{append-nil, length-append, length-map, drop-drop, drop_at, take_at}
 use Rattle.std.proofs.lemmas.Nat.{from_le_bytes-to_le_bytes_2}
-use Rattle.std.proofs.lemmas.Bool.{lt-ltb, or_parts, ltb-false, eqb-false}
+use Rattle.std.proofs.lemmas.Bool.{lt-ltb}
 use Rattle.std.proofs.lemmas.Bool.Decides.{nat_tests}
 use Rattle.accounts.specs.declared.record.Line.{Line}
 use Rattle.requests.specs.Meaning.{pair_at, fits, pairs_from, line_at, lines_from, count, meaning, remark_of, remark_at}
-use Rattle.requests.proofs.Judged.{then_ok}
-use Rattle.requests.proofs.Readings.{cond_ok}
 use Rattle.request_writer.specs.declared.refusal.WriteRefusal.{WriteRefusal}
-use Rattle.request_writer.specs.declared.refusal.WriteRefusal.TheVariants as refusal
 use Rattle.request_writer.specs.declared.entry.Entry.{Entry}
 use Rattle.request_writer.specs.Packing.{Item, item, form, digits, text, holds, pairs, file_of, items_from, packing, sized, ReadsBack}
-use Rattle.request_writer.proofs.Texts.{length_form, length_text}
+use Rattle.request_writer.proofs.Texts.{length_text}
 use Rattle.request_writer.proofs.Checks.{size, length_file, length_pairs, text_most}
 use Rattle.request_writer.proofs.Fields.{text_back}
 use Rattle.request_writer.proofs.Places.{Stands, stands}
@@ -93,13 +90,14 @@ pub record Packed (es : List Item) (file : List ℕ) : Type 0 where
 pub packed : (es : List Item) (file : List ℕ) → packing es ≡ Ok file → Packed es file
 unfolding packing
 packed es file h =
-    let n = length es in
-    let counts = cond_ok (eqb n 0 || ltb 1024 n) refusal.LineCount _ file h in
-    let tests = or_parts (eqb n 0) (ltb 1024 n) counts.0 in
-    let items = then_ok (items_from 0 es) _ file counts.1 in
-    let sizes = cond_ok (ltb 65535 (length (file_of es))) refusal.FileLength (Ok (file_of es)) file items.2 in
-    let short = ltb-false 65535 (length (file_of es)) sizes.0 in
-    record { some = eqb-false n 0 tests.0; few = ltb-false 1024 n tests.1; items = items.1; short = omega (arith, length_file es, short); is = let e = sizes.1 in cc }
+    let long = length_file es in
+    record {
+      some = λ none. grind (arith, nat_tests);
+      few = grind (arith, nat_tests);
+      items = grind (arith, nat_tests);
+      short = grind (arith, nat_tests);
+      is = grind (arith, nat_tests);
+    }
 
 count_back : (es : List Item) → (length es ≡ 0 → ⊥) → length es ≤ 1024 → size es ≤ 65535 → count (file_of es) ≡ Ok (length es)
 unfolding count file_of
@@ -136,11 +134,8 @@ reads_back es file h =
 
 -- lines that can be packed make the file
 pub packs : (es : List Item) → IsOk (packing es) → packing es ≡ Ok (file_of es)
-packs es h = by (packing es) refl h
-  where
-    by : (r : Result (List ℕ) WriteRefusal) → packing es ≡ r → IsOk r → packing es ≡ Ok (file_of es)
-    by (Ok file) is h = is ∙ ap Ok (packed es file is).is
-    by (Err e) is h = cc
+unfolding packing
+packs es h = grind (arith, nat_tests)
 
 -- the numbers of each line fit
 pub numbers_at : (p : ℕ) (es : List Entry) → items_from p (map item es) ≡ Ok tt → (k : ℕ) (d : Entry) → k < length es → holds (get_or es k d).line ≡ true
