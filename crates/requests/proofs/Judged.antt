@@ -1,5 +1,5 @@
 -- Judging the pairs and the lines of a file one by one.
-use Rattle.std.proofs.Common.{◌≡◌, ℕ, zero, suc, ◌+◌, ◌-◌, ◌<◌, ◌≤◌, true, cond, List, [], ◌∷◌, ◌++◌, length, get_or, take, drop, set, IsOk, Ok, Err, Result, refl, ap, ◌∙◌, inl, inr, add-zero, zero-add, arith}
+use Rattle.std.proofs.Common.{◌≡◌, ℕ, zero, suc, ◌+◌, ◌-◌, ◌<◌, ◌≤◌, true, cond, List, [], ◌∷◌, ◌++◌, length, get_or, take, drop, set, IsOk, Ok, Err, Result, refl, ap, inl, inr, add-zero, zero-add, arith}
 use Rattle.requests.specs.declared.fault.FieldFault.{FieldFault}
 use Rattle.std.proofs.lemmas.List.{set_at, length-take-le, append_assoc, append-nil, take_more, drop_more, take_all, drop_all}
 use Rattle.std.proofs.lemmas.Bool.{cases_order}
@@ -8,9 +8,8 @@ use Rattle.accounts.specs.declared.record.Line.{Line}
 use Rattle.accounts.specs.declared.record.Size.TheVariants.{Small}
 use Rattle.accounts.specs.declared.record.Kind.TheVariants.{Member}
 use Rattle.requests.specs.declared.pairs.Pair.{Pair}
-use Rattle.requests.specs.declared.fault.LineFault.{LineFault}
 use Rattle.requests.specs.Form.{then, line_of}
-use Rattle.requests.specs.Meaning.{pair_at, end_of, fits, pairs_from, part, of_line, line_at, lines_from, checked, written}
+use Rattle.requests.specs.Meaning.{pair_at, end_of, fits, pairs_from, of_line, line_at, lines_from, checked, written}
 use Rattle.requests.specs.Parts.{Placed}
 
 pub pairs_step : (file : List ℕ) (start place n : ℕ) → place < n → pairs_from file start place (n - place) ≡ cond (fits (length file) start (pair_at file place)) (pairs_from file (end_of (pair_at file place)) (place + 1) (n - (place + 1))) (Err (record { place = place }))
@@ -51,19 +50,13 @@ pub line_is : (file : List ℕ) (place : ℕ) (p : Pair) → p ≡ pair_at file 
 unfolding line_at
 line_is file place p is r h =
     let long : end_of p - p.offset ≡ p.length = omega arith in
-    ap (of_line place) (h ∙ ap (λ k. line_of (take k (drop p.offset file))) long ∙ ap (λ q. line_of (part file q)) is)
-
--- what stands behind a line makes no fault of it
-checked_then : (r : Result Line LineFault) (rest : Result (List Line) LineFault) → checked (then r (λ line. then rest (λ lines. Ok (line ∷ lines)))) ≡ then r (λ _. checked rest)
-checked_then (Ok line) (Ok lines) = refl
-checked_then (Ok line) (Err fault) = refl
-checked_then (Err fault) rest = refl
+    cc
 
 pub lines_step : (file : List ℕ) (place n : ℕ) → place < n → checked (lines_from file place (n - place)) ≡ then (line_at file place) (λ _. checked (lines_from file (place + 1) (n - (place + 1))))
 unfolding lines_from
 lines_step file place n l =
     let left : n - place ≡ suc (n - (place + 1)) = omega arith in
-    rw left (checked_then (line_at file place) (lines_from file (place + 1) (n - (place + 1))))
+    rw left (grind arith)
 
 pub lines_all : (file : List ℕ) (place n : ℕ) → n ≤ place → checked (lines_from file place (n - place)) ≡ Ok tt
 unfolding lines_from

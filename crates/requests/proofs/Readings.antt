@@ -1,14 +1,8 @@
 -- What is known of a file that was read.
-use Rattle.std.proofs.Common.{◌≡◌, ℕ, ◌+◌, ◌*◌, ◌≤◌, Bool, true, false, cond, ltb, List, length, None, Ok, Err, Result, sym, refl, ap, ◌∙◌, subst, arith}
-use Rattle.std.specs.Result.{result_map_both, result_ok}
-use Rattle.std.proofs.lemmas.Bool.{cond-false, ltb-false, le-ltb}
+use Rattle.std.proofs.Common.{◌≡◌, ℕ, ◌+◌, ◌*◌, ◌≤◌, List, length, Ok, Err, Result, sym, refl, ap, ◌∙◌, arith}
 use Rattle.std.proofs.lemmas.Bool.Decides.{nat_tests}
 use Rattle.accounts.specs.declared.record.Line.{Line}
-use Rattle.requests.specs.declared.fault.LineFault.{LineFault}
-use Rattle.requests.specs.declared.fault.RequestRefusal.{RequestRefusal}
-use Rattle.requests.specs.declared.fault.RequestRefusal.TheVariants as refusal
-use Rattle.requests.specs.Form.{then}
-use Rattle.requests.specs.Meaning.{pairs_from, lines_from, lines_of, count, as_refusal, reading, meaning, checked, counted, written, remark_if, remark_at}
+use Rattle.requests.specs.Meaning.{pairs_from, lines_from, lines_of, count, reading, meaning, checked, counted, written}
 use Rattle.requests.proofs.Judged.{then_ok, length_lines, ok_values, values}
 
 -- a length and a line count that are in order
@@ -72,6 +66,3 @@ all_pass file places n counts room placed formed =
 pub reading_all : (file : List ℕ) → reading file 1024 ≡ meaning file
 unfolding count
 reading_all file = grind (arith, nat_tests)
-
-pub remark_fault : {A : Type 0} (file : List ℕ) (place : ℕ) (r : Result A RequestRefusal) (lines : A → ℕ) → result_map_both lines (λ e. e) r ≡ counted (reading file 1024) → result_ok r ≡ None → None ≡ remark_at file place
-remark_fault file place r lines h none = let all = reading_all file in grind arith

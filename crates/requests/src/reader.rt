@@ -39,6 +39,7 @@ pub fn read(file: &[u8], table: &mut [Line]) -> Result<usize, RequestRefusal>
 }
 
 // The remark of the line at a place, or nothing where the file is not in order or has no such line.
+#[tactic(auto, using(crate::proofs::Readings::reading_all))]
 pub fn remark<'a>(file: &'a [u8], place: usize) -> Option<Remark<'a>>
     ensures { option_map (λ m. (m.text.now, m.offset)) result ≡ remark_at file.now place }
 {
