@@ -59,3 +59,5 @@ first_slots bs n h = first_range (λ i. slot i bs) 0 n (capacity_of bs) h
 
 pub record_here : (bs : List ℕ) (i : ℕ) → i < capacity_of bs → record_at bs i ≡ decoded (slot i bs)
 record_here bs i h = cond-true (ltb i (capacity_of bs)) (decoded (slot i bs)) None (lt-ltb i (capacity_of bs) h)
+
+pub ruleset slot_told = (slot_at, slot_past)

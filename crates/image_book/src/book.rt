@@ -53,6 +53,7 @@ impl<'a> ImageBook<'a> {
     }
 
     // Puts a record after the last.
+    #[tactic(auto, using(crate::proofs::Changing::reads_added))]
     fn push(&mut self, new: Record)
         requires { takes (records_of self.old) (room_of self.old) new ≡ true }
         ensures image { Added true self.new self.old new }
