@@ -97,6 +97,7 @@ impl<'a> AccountBook for TableBook<'a> {
             .position(|record| record.account == account)
     }
 
+    // `add` and `replace` stand in each book: in one place they would need a public `push` with a `requires`
     fn add(&mut self, new: Record) -> bool
         ensures answer { result ≡ takes (records_of self.old) (room_of self.old) new }
         ensures after { Left (Sound self.new) (contents_of self.new) (contents_of self.old) (added result (records_of self.old) new) }
