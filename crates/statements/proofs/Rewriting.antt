@@ -15,7 +15,8 @@ use Rattle.statements.specs.declared.statement.Expected.TheVariants.{File, Rate}
 use Rattle.statements.specs.declared.statement.MethodName.{MethodName}
 use Rattle.statements.specs.declared.statement.MethodName.TheVariants.{ValueStack, Volumetric}
 use Rattle.statements.specs.declared.statement.ParseError.TheVariants.{Expected as expected}
-use Rattle.statements.specs.Fields.{and_then, most8, most16, most32, most64, rates_from}
+use Rattle.statements.specs.Results.{and_then}
+use Rattle.statements.specs.Fields.{most8, most16, most32, most64, rates_from}
 use Rattle.statements.specs.Meanings.{
   Meaning,
   a_method,

@@ -7,7 +7,7 @@ use Rattle.statements.specs.declared.statement.Expected.TheVariants as what
 use Rattle.statements.specs.declared.statement.ParseError.{ParseError}
 use Rattle.statements.specs.declared.statement.ParseError.TheVariants.{Expected as expected, NoMemory}
 use Rattle.statements.specs.declared.statement.Statement.{Statement}
-use Rattle.statements.specs.Fields.{and_then}
+use Rattle.statements.specs.Results.{and_then}
 use Rattle.statements.specs.Keywords.{keyword_of}
 use Rattle.statements.specs.Meanings.{meaning, says, says_named, is_remark, words_say, keeps, keeps_named, asks_memory, Told}
 use Rattle.statements.specs.Words.{first, rest}
