@@ -78,15 +78,24 @@ impl Amount {
     }
 }
 
-// The sum of an amount over calls with their answers, in order.
-pub fn sum<M>(amount: Amount, calls: &[Call<M>], answers: &[Result<Done, Refusal>]) -> u128
-    ensures { result ≡ sum_of amount calls.now answers.now }
-{
-    calls
-        .iter()
-        .zip(answers)
-        .map(|(call, answer)| u128::from(amount.of(call, answer)))
-        .sum()
+// Calls and their answers, in order.
+#[derive(Drop)]
+pub struct Performed<'a, M> {
+    pub calls: &'a [Call<M>],
+    pub answers: &'a [Result<Done, Refusal>],
+}
+
+impl<M> Performed<'_, M> {
+    // What the calls come to together.
+    pub fn sum(&self, amount: Amount) -> u128
+        ensures { result ≡ sum_of amount self.now.calls.now self.now.answers.now }
+    {
+        self.calls
+            .iter()
+            .zip(self.answers)
+            .map(|(call, answer)| u128::from(amount.of(call, answer)))
+            .sum()
+    }
 }
 
 // The units held in all records; a book gives them by their places.
