@@ -6,8 +6,8 @@ ghost use Rattle.posting.specs.Amounts.{of_bill, of_close, of_lapse, of_call, am
 use accounts::book::AccountBook;
 use ledger::call::{Call, Done, Posting, Refusal, Settlement};
 
-// What is summed: units read, used and forfeited, and cents applied, net, paid to the host and kept by the utility. It is one
-// value, since seven closures would each match the answers anew.
+// What is summed: units read, used and forfeited, and cents applied, net, paid to the host and kept by the utility.
+// It is one value, since seven closures would each match the answers anew.
 #[derive(Clone, Copy, PartialEq, Eq, Debug)]
 pub enum Amount {
     Read,
