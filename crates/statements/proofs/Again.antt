@@ -65,14 +65,14 @@ solid : (ds : List ℕ) → all_ascii_digits ds ≡ true → no_space ds ≡ tru
 solid [] h = refl
 solid (b ∷ ds) h =
     let p = and_parts (is_ascii_digit b) (all_ascii_digits ds) h in
-    and_from (not (is_space b)) (no_space ds) (digit_solid b p.0) (solid ds p.1)
+    grind (arith, digit_solid b p.0, solid ds p.1)
 
 gathers : (most n : ℕ) (ds : List ℕ) → all_ascii_digits ds ≡ true → digits_after most n ds ≡ Some (min (read_on n ds) most)
 unfolding digits_after
 gathers most n [] h = refl
 gathers most n (b ∷ ds) h =
     let p = and_parts (is_ascii_digit b) (all_ascii_digits ds) h in
-    cond-true (is_ascii_digit b) (digits_after most (n * 10 + (b - 48)) ds) None p.0 ∙ gathers most (n * 10 + (b - 48)) ds p.1
+    grind (arith, p, gathers most (n * 10 + (b - 48)) ds p.1)
 
 pub decimal_word : (n : ℕ) → n < 2 ^ 64 → is_word (decimal n) ≡ true
 decimal_word n h = and_from (ltb 0 (length (decimal n))) (no_space (decimal n)) (lt-ltb 0 (length (decimal n)) (decimal_nonempty n h)) (solid (decimal n) (digits_decimal own n h))

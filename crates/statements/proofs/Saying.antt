@@ -44,3 +44,5 @@ told xs w ws k head tail plain named (Err NoMemory) t q m = rw m tt
 
 pub asks : (xs : List (List ℕ)) (w : List ℕ) (ws : List (List ℕ)) (k : Keyword) → Some w ≡ first xs → ws ≡ rest xs → keyword_of w ≡ Some k → keeps k ≡ true → asks_memory xs ≡ true
 asks xs w ws k head tail named e = ap asks_memory (split xs w ws head tail) ∙ ap keeps_named named ∙ e
+
+pub ruleset saying = (told, unnamed, asks)

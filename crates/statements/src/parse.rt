@@ -161,7 +161,7 @@ fn is_remark(word: &[u8]) -> bool
 }
 
 // The statement of a line; none where the line is blank or a remark, which begins with `#`.
-#[tactic(auto, using(crate::proofs::Saying::asks))]
+#[tactic(auto, using(crate::proofs::Saying::saying))]
 pub fn parse(line: &[u8], heap: Global) -> Result<Option<Statement>, ParseError>
     ensures value { Told (option_map meaning) (statement_of line.now) result }
     ensures memory { result ≡ Err NoMemory → asks_memory (words line.now) ≡ true }

@@ -32,6 +32,7 @@ pub struct Reader<'a> {
 
 impl<'a> Reader<'a> {
     // The next word, or nothing at the line's end.
+    #[tactic(auto, using(crate::proofs::Cutting::cuts))]
     pub fn word(&mut self) -> Option<&'a [u8]>
         ensures value { option_map (λ x. x.now) result ≡ first (words self.old.left.now) }
         ensures left { words self.new.left.now ≡ rest (words self.old.left.now) }
