@@ -129,22 +129,7 @@ line_said : (l : Line) (size : Size) (kind : Kind) → number_of most64 (decimal
 line_said l size kind a p s k = grind (arith, a, p, s, k)
 
 said : (m : Meaning) → Fitting m → words_say (words_of m) ≡ Ok (Some m)
-said (a_method name) f = method_said name
-said (a_book (Table places)) f = rw (number_decimal most64 places f (omega arith)) refl
-said (a_book (Image bytes)) f = rw (number_decimal most64 bytes f (omega arith)) refl
-said (an_opening project) f = project_said project.smallest project.farm (number_decimal most32 project.smallest (omega arith) (omega arith))
-said (some_rates rates) f = rw (rates_again [] rates f) refl
-said (a_line l) f =
-    line_said l l.size l.kind (number_decimal most64 l.account (omega arith) (omega arith)) (number_decimal most32 l.percentage (omega arith) (omega arith)) (number_decimal most16 l.savings (omega arith) (omega arith)) (number_decimal most8 l.class (omega arith) (omega arith))
-said (a_request name) f =
-    ap (λ t. and_then (and_then (and_then (cond t (Ok name) (Err (expected File))) λ n. Ok n) λ n. Ok (a_request n)) λ m. Ok (Some m)) (text_is name f)
-said an_enrolment f = refl
-said (a_reading units) f = rw (number_decimal most64 units f (omega arith)) refl
-said (a_bill account cents) f = rw (number_decimal most64 account f.0 (omega arith), number_decimal most64 cents f.1 (omega arith)) refl
-said (a_final_bill account cents) f = rw (number_decimal most64 account f.0 (omega arith), number_decimal most64 cents f.1 (omega arith)) refl
-said (a_disbursement account units) f = rw (number_decimal most64 account f.0 (omega arith), number_decimal most64 units f.1 (omega arith)) refl
-said a_lapse f = refl
-said a_close f = refl
+said m f = grind (arith, number_decimal, rates_again, text_is, project_said, line_said)
 
 pub written : (m : Meaning) (bs : List ℕ) → Fitting m → bs ≡ text_of m → Written m bs
 written m bs f e =
