@@ -5,8 +5,8 @@ ghost use Rattle.posting.specs.Amounts.{of_bill, of_close, of_lapse, of_call, am
 use accounts::book::AccountBook;
 use ledger::call::{Call, Done, Posting, Refusal, Settlement};
 
-// What is summed: units read, used and forfeited, and cents applied, net, paid to the host and kept by the utility. It is one
-// value, since seven closures would each match the answers anew.
+// What is summed: units read, used and forfeited, and cents applied, net, paid to the host and kept by the utility.
+// It is one value, since seven closures would each match the answers anew.
 #[derive(Clone, Copy, PartialEq, Eq, Debug)]
 pub enum Amount {
     Read,
@@ -77,15 +77,24 @@ impl Amount {
     }
 }
 
-// The sum of an amount over calls with their answers, in order.
-pub fn sum<M>(amount: Amount, calls: &[Call<M>], answers: &[Result<Done, Refusal>]) -> u128
-    ensures { result ≡ sum_of amount calls.now answers.now }
-{
-    calls
-        .iter()
-        .zip(answers)
-        .map(|(call, answer)| u128::from(amount.of(call, answer)))
-        .sum()
+// Calls and their answers, in order.
+#[derive(Drop)]
+pub struct Performed<'a, M> {
+    pub calls: &'a [Call<M>],
+    pub answers: &'a [Result<Done, Refusal>],
+}
+
+impl<M> Performed<'_, M> {
+    // What the calls come to together.
+    pub fn sum(&self, amount: Amount) -> u128
+        ensures { result ≡ sum_of amount self.now.calls.now self.now.answers.now }
+    {
+        self.calls
+            .iter()
+            .zip(self.answers)
+            .map(|(call, answer)| u128::from(amount.of(call, answer)))
+            .sum()
+    }
 }
 
 // The units held in all records; a book gives them by their places.
