@@ -5,7 +5,7 @@ use std::process::ExitCode;
 #[derive(Clone, Copy, PartialEq, Eq, Debug)]
 pub enum Ending {
     Done,
-    // why is then told
+    // what was wrong is told before
     Refused,
 }
 

@@ -1,6 +1,4 @@
 // Packs and shows request files.
-ghost use Rattle.std.specs.Prelude.{◌≤◌, length};
-
 use super::ending::Ending;
 use accounts::record::Line;
 use answer_text::refusal::refusal_line;
@@ -16,28 +14,23 @@ use statements::write::write as write_statement;
 use std::fs;
 use std::str::from_utf8;
 
-const FIELDS: u8 = 6;
+const FIELDS: usize = 6;
 
 // The first word of a line's statement, and a space.
 const LINE_WORD: &str = "line ";
 
-// Where the six fields of a line end.
-fn fields_end(text: &[u8]) -> usize
-    ensures { result ≤ length text.now }
-{
-    let mut fields = 0u8;
-    let mut inside = false;
-    for (place, byte) in text.iter().enumerate() {
-        let space = *byte == b' ';
-        if inside && space {
-            fields = fields.saturating_add(1);
-            if fields == FIELDS {
-                return place;
-            }
-        }
-        inside = !space;
-    }
-    text.len()
+// Where the six fields of a line end: each ends at a space behind a byte that is none.
+fn fields_end(text: &[u8]) -> usize {
+    text.windows(2)
+        .enumerate()
+        .filter(|(_, pair)| pair[0] != b' ' && pair[1] == b' ')
+        .nth(FIELDS - 1)
+        .map_or(text.len(), |(place, _)| place + 1)
+}
+
+// The six fields of a line.
+fn fields_of(text: &[u8]) -> &[u8] {
+    text.get(..fields_end(text)).unwrap_or(text)
 }
 
 // What follows the fields and a space.
@@ -49,7 +42,7 @@ fn remark_of(text: &[u8]) -> &[u8] {
 // The line that a text's line tells; none where it cannot be understood, which is then told.
 fn line_of(rt: &HostRuntime, number: usize, text: &[u8]) -> anyhow::Result<Option<Line>> {
     let mut statement = Vec::from_slice(rt.alloc(), LINE_WORD.as_bytes())?;
-    statement.extend_from_slice(&text[0..fields_end(text)])?;
+    statement.extend_from_slice(fields_of(text))?;
     match parse(statement.as_slice(), rt.alloc()) {
         Ok(Some(Statement::Line(line))) => Ok(Some(line)),
         Err(ParseError::Expected(what)) => {
