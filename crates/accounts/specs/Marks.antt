@@ -1,5 +1,5 @@
 -- How a record's size, kind and state are written.
-use Rattle.std.specs.Prelude.{ℕ, cond, List, Some, None, Option, ◌==◌, codes}
+use Rattle.std.specs.Prelude.{ℕ, cond, List, ◌++◌, Some, None, Option, ◌==◌, codes, decimal}
 use Rattle.accounts.specs.declared.record.Size.{Size}
 use Rattle.accounts.specs.declared.record.Size.TheVariants.{Small, Large}
 use Rattle.accounts.specs.declared.record.Kind.{Kind}
@@ -42,3 +42,7 @@ state_of b = cond (b == 1) (Some Open) (cond (b == 2) (Some Closed) None)
 abbrev pub state_text : State → List ℕ
 state_text Open = codes "open"
 state_text Closed = codes "closed"
+
+-- a byte that marks none of the three, in words
+abbrev pub unknown_text : ℕ → List ℕ
+unknown_text b = codes "no size, kind or state has the mark " ++ decimal b

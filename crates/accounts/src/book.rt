@@ -7,8 +7,8 @@ ghost use Rattle.accounts.specs.Books.{Contents, accounts, find, takes, added, s
 use crate::record::Record;
 
 pub trait AccountBook {
-    // the records in order of adding, the room for them, and what no call here changes: numbers kept beside the records, and
-    // the memory that is lent to the book
+    // the records in order of adding, the room for them, and what no call here changes: numbers kept beside the
+    // records, and the memory that is lent to the book
     ghost contents: { Self → Contents };
 
     // that it is a proper book, for each kind of book to say; the rules are for books of which it holds

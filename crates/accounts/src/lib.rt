@@ -2,6 +2,7 @@
 #![tactic(auto)]
 
 pub mod book;
+pub mod limits;
 pub mod marks;
 pub mod project;
 pub mod record;

@@ -1,7 +1,7 @@
 // The marks of a record: size and kind by a letter, the state by a number in an image and by a word in print.
 ghost use Rattle.std.specs.Prelude.{◌≡◌, Some};
 ghost use Rattle.std.specs.Option.{ok_or};
-ghost use Rattle.accounts.specs.Marks.{size_letter, size_of, size_text, kind_letter, kind_of, kind_text, state_number, state_of, state_text};
+ghost use Rattle.accounts.specs.Marks.{size_letter, size_of, size_text, kind_letter, kind_of, kind_text, state_number, state_of, state_text, unknown_text};
 
 use super::record::{Kind, Size, State};
 use std::error::Error;
@@ -14,6 +14,8 @@ pub struct UnknownMark {
 }
 
 impl fmt::Display for UnknownMark {
+    ghost output = { λ mark. Some (unknown_text mark.byte) };
+
     fn fmt<W: fmt::Write>(&self, f: &mut fmt::Formatter<W>) -> fmt::Result {
         write!(f, "no size, kind or state has the mark {}", self.byte)
     }

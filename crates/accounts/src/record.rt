@@ -2,6 +2,8 @@
 ghost use Rattle.std.specs.Prelude.{◌≡◌};
 ghost use Rattle.accounts.specs.Ranges.{account_in_range, savings_in_range, class_in_range, in_range, line_in_range};
 
+use super::limits::{MOST_ACCOUNT, MOST_PERIODS, MOST_UNITS, WHOLE};
+
 // The size of a satellite: `S`, or `L` for a demand of 25 kW or more.
 #[derive(Clone, Copy, PartialEq, Eq, Debug, Default)]
 pub enum Size {
@@ -53,14 +55,6 @@ pub struct Line {
     pub size: Size,
     pub kind: Kind,
 }
-
-const MOST_ACCOUNT: u64 = 99_999_999_999;
-
-const WHOLE: u32 = 100_000;
-
-const MOST_UNITS: u64 = 1_000_000_000_000;
-
-const MOST_PERIODS: u32 = 1_200;
 
 fn account_in_range(account: u64) -> bool
     ensures { result ≡ account_in_range account }

@@ -8,16 +8,17 @@ use Rattle.ledger.specs.declared.call.Settlement.{Settlement}
 use Rattle.ledger.specs.Refusals.{number, place, reason}
 use Rattle.answer_text.specs.Reasons.{refused_text}
 
-abbrev pub bill_text : Posting → List ℕ
-bill_text p =
-    codes "bill: applied " ++ (decimal p.applied
+-- what a bill comes to
+abbrev pub posting_text : Posting → List ℕ
+posting_text p =
+    codes "applied " ++ (decimal p.applied
     ++ (codes " used " ++ (decimal p.used ++ (codes " net " ++ (decimal p.net ++ (codes " fee " ++ decimal p.fee))))))
 
+abbrev pub bill_text : Posting → List ℕ
+bill_text p = codes "bill: " ++ posting_text p
+
 abbrev pub final_text : Posting → ℕ → List ℕ
-final_text p forfeited =
-    codes "final: applied " ++ (decimal p.applied
-    ++ (codes " used " ++ (decimal p.used
-    ++ (codes " net " ++ (decimal p.net ++ (codes " fee " ++ (decimal p.fee ++ (codes " forfeited " ++ decimal forfeited))))))))
+final_text p forfeited = codes "final: " ++ (posting_text p ++ (codes " forfeited " ++ decimal forfeited))
 
 abbrev pub close_text : Settlement → List ℕ
 close_text s =

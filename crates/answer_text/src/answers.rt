@@ -1,10 +1,11 @@
 // The line of an answer.
-ghost use Rattle.std.specs.Prelude.{◌≡◌, IfOk, string_bytes};
-ghost use Rattle.answer_text.specs.Answers.{bill_text, final_text, close_text, done_text, answer_text, request_text};
+ghost use Rattle.std.specs.Prelude.{◌≡◌, IfOk, Some, string_bytes};
+ghost use Rattle.answer_text.specs.Answers.{posting_text, close_text, done_text, answer_text, request_text};
 
 use crate::refusal::refusal_line;
 use ledger::call::{Done, Posting, Refusal, Settlement};
 use std::alloc::{AllocError, Global};
+use std::fmt;
 
 // The line of a ledger that is opened.
 pub const OPENED: &str = "open: opened";
@@ -12,30 +13,22 @@ pub const OPENED: &str = "open: opened";
 // The line of rates that are set.
 pub const RATES_SET: &str = "rates: set";
 
-fn bill_line(posting: Posting, heap: Global) -> Result<String, AllocError>
-    ensures { IfOk result (λ s. string_bytes s ≡ bill_text posting) }
-{
-    let Posting {
-        applied,
-        used,
-        net,
-        fee,
-    } = posting;
-    format!(in heap; "bill: applied {applied} used {used} net {net} fee {fee}")
-}
+// The amounts of a bill.
+#[derive(Clone, Copy)]
+struct BillAmounts(Posting);
 
-fn final_line(posting: Posting, forfeited: u64, heap: Global) -> Result<String, AllocError>
-    ensures { IfOk result (λ s. string_bytes s ≡ final_text posting forfeited) }
-{
-    let Posting {
-        applied,
-        used,
-        net,
-        fee,
-    } = posting;
-    format!(in heap;
-        "final: applied {applied} used {used} net {net} fee {fee} forfeited {forfeited}"
-    )
+impl fmt::Display for BillAmounts {
+    ghost output = { λ amounts. Some (posting_text amounts.0) };
+
+    fn fmt<W: fmt::Write>(&self, f: &mut fmt::Formatter<W>) -> fmt::Result {
+        let Posting {
+            applied,
+            used,
+            net,
+            fee,
+        } = self.0;
+        write!(f, "applied {applied} used {used} net {net} fee {fee}")
+    }
 }
 
 fn close_line(settlement: Settlement, heap: Global) -> Result<String, AllocError>
@@ -57,8 +50,10 @@ fn done_line(done: Done, heap: Global) -> Result<String, AllocError>
     match done {
         Done::Enrolled { new } => format!(in heap; "enrol: {new} new"),
         Done::Opened { period } => format!(in heap; "reading: period {period}"),
-        Done::Billed(posting) => bill_line(posting, heap),
-        Done::FinallyBilled { posting, forfeited } => final_line(posting, forfeited, heap),
+        Done::Billed(posting) => format!(in heap; "bill: {}", BillAmounts(posting)),
+        Done::FinallyBilled { posting, forfeited } => {
+            format!(in heap; "final: {} forfeited {forfeited}", BillAmounts(posting))
+        }
         Done::Disbursed { bank } => format!(in heap; "disburse: bank {bank}"),
         Done::Lapsed { forfeited } => format!(in heap; "lapse: forfeited {forfeited}"),
         Done::Closed(settlement) => close_line(settlement, heap),

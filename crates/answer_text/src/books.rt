@@ -1,43 +1,25 @@
 // The lines of the ledger and of its accounts, after the last statement.
 ghost use Rattle.std.specs.Prelude.{◌≡◌, IfOk, Some, string_bytes};
-ghost use Rattle.answer_text.specs.Books.{phase_line, ledger_text, terms_text, account_text};
+ghost use Rattle.answer_text.specs.Books.{ledger_text, terms_text, account_text};
 
 use accounts::record::Record;
 use ledger::phase::Phase;
 use std::alloc::{AllocError, Global};
 use std::fmt;
 
-fn phase_line(
-    when: &str,
-    closed: u32,
-    bank: u64,
-    applied: u64,
-    fees: u64,
-    heap: Global,
-) -> Result<String, AllocError>
-    ensures { IfOk result (λ s. string_bytes s ≡ phase_line when.now closed bank applied fees) }
-{
-    format!(in heap; "ledger: {when}, closed {closed}, bank {bank}, applied {applied}, fees {fees}")
-}
-
 // The ledger's phase, its closed periods and its bank, and the open period's applied credits and fees.
+// It takes these and no Ledger, which would ask more of callers.
 pub fn ledger_line(phase: Phase, closed: u32, bank: u64, heap: Global) -> Result<String, AllocError>
     ensures { IfOk result (λ s. string_bytes s ≡ ledger_text phase closed bank) }
 {
-    match phase {
-        Phase::Between => phase_line("between periods", closed, bank, 0, 0, heap),
-        Phase::InPeriod { applied, fees } => phase_line(
-            "in period",
-            closed,
-            bank,
-            applied,
-            fees,
-            heap,
-        ),
-    }
+    let (when, applied, fees) = match phase {
+        Phase::Between => ("between periods", 0, 0),
+        Phase::InPeriod { applied, fees } => ("in period", applied, fees),
+    };
+    format!(in heap; "ledger: {when}, closed {closed}, bank {bank}, applied {applied}, fees {fees}")
 }
 
-// What a record says of its account, but for the account itself and what it has come to.
+// An account's terms: its percentage, savings, class, size and kind.
 #[derive(Clone, Copy)]
 struct Terms(Record);
 

@@ -5,6 +5,7 @@ use super::journals::{folder_of, journal_of};
 use super::paper::Paper;
 use super::progress::Progress;
 use accounts::book::AccountBook;
+use accounts::limits;
 use accounts::record::Record;
 use answer_text::refusal::refusal_line;
 use crediting::value_stack::ValueStack;
@@ -21,7 +22,7 @@ use statements::statement::{BookKind, MethodName};
 use std::io::Read;
 use table_book::TableBook;
 
-const MOST_RECORDS: u64 = 4_096;
+const MOST_RECORDS: u64 = limits::MOST_RECORDS as u64;
 
 const MOST_IMAGE: u64 = 4 + 36 * MOST_RECORDS;
 

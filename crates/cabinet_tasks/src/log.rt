@@ -15,6 +15,7 @@ use ledger::call::{Done, Refusal};
 use ledger::ledger::Ledger;
 use posting::note::Note;
 use posting::plan::Plan;
+use posting::totals::Performed;
 use std::io::{BufWriter, Write};
 
 // How many lines are printed between two looks at the clock.
@@ -44,15 +45,18 @@ impl Paper for Log {
             }
             Err(why) => return Err(why.into()),
         };
-        let answers = answers.as_slice();
+        let performed = Performed {
+            calls,
+            answers: answers.as_slice(),
+        };
         progress.tell(calls.len(), "calls are posted")?;
         let mut out = BufWriter::new(heap, rt.stdout())?;
         writeln!(out, "{OPENED}")?;
-        print_answers(progress, &mut out, plan.notes.as_slice(), answers)?;
+        print_answers(progress, &mut out, plan.notes.as_slice(), performed.answers)?;
         print_books(rt, &mut out, &ledger, book)?;
-        let units = unit_totals(&ledger, book, calls, answers);
+        let units = unit_totals(&ledger, book, &performed);
         writeln!(out, "{units}")?;
-        let cents = cent_totals(&ledger, calls, answers);
+        let cents = cent_totals(&ledger, &performed);
         writeln!(out, "{cents}")?;
         out.flush()?;
         Ok(())

@@ -1,10 +1,10 @@
 -- Why the worth of each method is lawful: quotients rounded up, and the smallest number of units that a rate makes worth an amount.
-use Rattle.std.specs.Prelude.{◌≡◌, ℕ, ◌+◌, ◌-◌, ◌*◌, ◌/◌, ◌%◌, ◌<◌, ◌≤◌, min, true, List, nat_le}
-use Rattle.std.proofs.Common.{arith, add-mul, le-div_iff_mul-le, mod-lt, mul-le-mul, mul-le-mul_right, one-mul, refl, zero-mul, ◌∙◌, ⊎_elim}
+use Rattle.std.specs.Prelude.{◌≡◌, ℕ, ◌+◌, ◌-◌, ◌*◌, ◌/◌, ◌%◌, ◌<◌, ◌≤◌, min, true, false, List, nat_le}
+use Rattle.std.proofs.Common.{arith, add-mul, le-div_iff_mul-le, mod-lt, mul-le-mul, mul-le-mul_right, one-mul, refl, sym, zero-mul, ◌∙◌, ⊎_elim}
 use Rattle.std.proofs.lemmas.Nat.{div-add-mod'}
-use Rattle.std.proofs.lemmas.Bool.{and_parts, cases_lt, leb-true}
-use Rattle.crediting.specs.Fewest.{Uses, applied_inside, uses_inside}
-use Rattle.crediting.specs.Credits.{Credited, Lawful, applied_credit}
+use Rattle.std.proofs.lemmas.Bool.{and_parts, cases_Bool, cases_lt, leb-true}
+use Rattle.crediting.specs.Fewest.{applied_inside, applied_outside, used_is, used_outside}
+use Rattle.crediting.specs.Credits.{Credited, Lawful, applied_credit, units_used}
 use Rattle.crediting.specs.Ranges.{has_worth, in_ranges, is_class}
 use Rattle.crediting.specs.Worths.{Fair, by_rates, cents, rate_of}
 
@@ -59,9 +59,17 @@ class_rate rs k all is =
     all.1 (k - 1) (omega arith)
 
 -- the units used in range, by the class's rate
-pub uses_rated : (rs : List ℕ) (k u b c r w : ℕ) → Fair rs → in_ranges k u b ≡ true → r ≡ rate_of rs k → c ≡ applied_credit (by_rates rs) k u b → w ≡ c * 10_000 / r + min 1 (c * 10_000 % r) → Uses (by_rates rs) k u b c w
-uses_rated rs k u b c r w all ok is pays rounds =
+pub used_rated : (rs : List ℕ) (k u b c r w : ℕ) → Fair rs → in_ranges k u b ≡ true → r ≡ rate_of rs k → c ≡ applied_credit (by_rates rs) k u b → w ≡ c * 10_000 / r + min 1 (c * 10_000 % r) → w ≡ units_used (by_rates rs) k u b
+used_rated rs k u b c r w all ok is pays rounds =
     let worth : has_worth k u ≡ true = (and_parts _ _ ok).0 in
     let bounds = class_rate rs k all (and_parts _ _ worth).0 in
     let p : Credited (by_rates rs k) u b c w = rw (rounds, is) (by_rate (rate_of rs k) u b c bounds.0 (pays ∙ applied_inside (by_rates rs) k u b ok)) in
-    uses_inside (by_rates rs) k u b c w (rate_lawful (rate_of rs k) bounds.1) ok p
+    used_is (by_rates rs) k u b c w (rate_lawful (rate_of rs k) bounds.1) ok p
+
+-- a unit that is a cent pays one cent
+pub used_cents : (k u b c : ℕ) → c ≡ applied_credit cents k u b → c ≡ units_used cents k u b
+used_cents k u b c pays =
+    ⊎_elim
+    (λ (ok : in_ranges k u b ≡ true). used_is cents k u b c c (cents_lawful k) ok (record { lesser = pays ∙ applied_inside cents k u b ok; enough = omega arith; fewest = λ w h. h }))
+    (λ (out : in_ranges k u b ≡ false). pays ∙ (applied_outside cents k u b out ∙ sym (used_outside cents k u b out)))
+    (cases_Bool (in_ranges k u b))

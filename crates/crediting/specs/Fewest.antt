@@ -1,8 +1,8 @@
--- The smallest number of units worth an amount: it is within the units held, and it is the only one.
+-- The smallest number of units worth an amount: it is within the units held, and it alone meets the rule.
 use Rattle.std.specs.Prelude.{◌≡◌, ℕ, zero, suc, ◌<◌, ◌≤◌, min, true, false, nat_le}
-use Rattle.std.proofs.Common.{arith, sym, ◌∙◌, ap, ⊎_elim}
+use Rattle.std.proofs.Common.{arith, refl, sym, ◌∙◌, ap, ⊎_elim}
 use Rattle.std.proofs.Math.Nat.{min-le_left, min-le_right}
-use Rattle.std.proofs.lemmas.Bool.{leb-true, leb-false, and_parts, both_ways, cases_lt, cond_both, cond-false, cond-true}
+use Rattle.std.proofs.lemmas.Bool.{leb-true, leb-false, and_parts, cases_lt, cond_both, cond-false, cond-true}
 use Rattle.crediting.specs.Credits.{Credited, Lawful, TheCredit, Within, applied_credit, smallest, told_worth, units_used}
 use Rattle.crediting.specs.Ranges.{has_worth, in_ranges, is_class}
 
@@ -25,19 +25,30 @@ unfolding applied_credit
 applied_within W k u b =
     cond_both (in_ranges k u b) (min b (W k u)) 0 (λ x. x ≤ b) (λ _. min-le_left b (W k u)) (λ _. omega arith)
 
--- where n units are worth too little, and w of at most n + 1 are worth enough, w is n + 1
-last_is : (W : ℕ → ℕ) (c n w : ℕ) → (w ≤ n → W w ≤ W n) → w ≤ suc n → c ≤ W w → W n < c → suc n ≡ w
-last_is W c n w rises within enough short =
-    ⊎_elim (λ (h : n < w). omega arith) (λ (h : w ≤ n). omega (arith, rises h)) (cases_lt n w)
-
--- a number of units that is worth c, where no smaller is, is this one
-pub smallest_is : (W : ℕ → ℕ) (c u w : ℕ) → ((i j : ℕ) → i ≤ j → j ≤ u → W i ≤ W j) → w ≤ u → c ≤ W w → ((v : ℕ) → c ≤ W v → w ≤ v) → smallest W c u ≡ w
+-- it is worth the amount where all units are
+pub smallest_enough : (W : ℕ → ℕ) (c u : ℕ) → c ≤ W u → c ≤ W (smallest W c u)
 unfolding smallest
-smallest_is W c zero w rises within enough fewest = omega arith
-smallest_is W c (suc n) w rises within enough fewest =
-    cond_both (nat_le c (W n)) (smallest W c n) (suc n) (λ x. x ≡ w)
-    (λ e. smallest_is W c n w (λ i j a b. rises i j a (omega arith)) (fewest n (leb-true c (W n) e)) enough fewest)
-    (λ e. last_is W c n w (λ h. rises w n h (omega arith)) within enough (leb-false c (W n) e))
+smallest_enough W c zero all = all
+smallest_enough W c (suc n) all =
+    cond_both (nat_le c (W n)) (smallest W c n) (suc n) (λ x. c ≤ W x) (λ e. smallest_enough W c n (leb-true c (W n) e)) (λ _. all)
+
+-- and every other number that is worth it is larger
+pub smallest_fewest : (W : ℕ → ℕ) (c u w : ℕ) → ((i j : ℕ) → i ≤ j → j ≤ u → W i ≤ W j) → c ≤ W w → smallest W c u ≤ w
+unfolding smallest
+smallest_fewest W c zero w rises enough = omega arith
+smallest_fewest W c (suc n) w rises enough =
+    cond_both (nat_le c (W n)) (smallest W c n) (suc n) (λ x. x ≤ w)
+    (λ _. smallest_fewest W c n w (λ i j a b. rises i j a (omega arith)) enough)
+    (λ e. ⊎_elim (λ (h : n < w). h) (λ (h : w ≤ n). omega (arith, rises w n h (omega arith), leb-false c (W n) e)) (cases_lt n w))
+
+-- so by a lawful worth it meets the rule
+pub credited : (W : ℕ → ℕ) (u b : ℕ) → Lawful W → u ≤ 1_000_000_000_000 → Credited W u b (min b (W u)) (smallest W (min b (W u)) u)
+credited W u b law top =
+    record {
+      lesser = refl;
+      enough = smallest_enough W (min b (W u)) u (min-le_right b (W u));
+      fewest = λ w h. smallest_fewest W (min b (W u)) u w (λ i j a z. law.rises i j a (omega arith)) h;
+    }
 
 -- two answers to one bill are equal
 pub one_credit : (W : ℕ → ℕ) (u b c w d v : ℕ) → Credited W u b c w → Credited W u b d v → (c ≡ d) × (w ≡ v)
@@ -45,7 +56,11 @@ one_credit W u b c w d v p q =
     let same : c ≡ d = p.lesser ∙ sym q.lesser in
     (same, omega (arith, p.fewest v (omega (arith, q.enough)), q.fewest w (omega (arith, p.enough))))
 
--- the units of an account in range
+-- the class of an account in range
+of_class : (k u b : ℕ) → in_ranges k u b ≡ true → is_class k ≡ true
+of_class k u b ok = (and_parts (is_class k) _ (and_parts (has_worth k u) _ ok).0).0
+
+-- its units
 held : (k u b : ℕ) → in_ranges k u b ≡ true → u ≤ 1_000_000_000_000
 held k u b ok = leb-true u 1_000_000_000_000 (and_parts (is_class k) _ (and_parts (has_worth k u) _ ok).0).1
 
@@ -62,36 +77,36 @@ pub applied_outside : (W : ℕ → ℕ → ℕ) (k u b : ℕ) → in_ranges k u 
 unfolding applied_credit
 applied_outside W k u b out = cond-false (in_ranges k u b) (min b (W k u)) 0 out
 
+-- the units used likewise
+used_inside : (W : ℕ → ℕ → ℕ) (k u b : ℕ) → in_ranges k u b ≡ true → units_used W k u b ≡ smallest (W k) (min b (W k u)) u
+unfolding units_used
+used_inside W k u b ok = cond-true (in_ranges k u b) (smallest (W k) (min b (W k u)) u) 0 ok
+
+pub used_outside : (W : ℕ → ℕ → ℕ) (k u b : ℕ) → in_ranges k u b ≡ false → units_used W k u b ≡ 0
+unfolding units_used
+used_outside W k u b out = cond-false (in_ranges k u b) (smallest (W k) (min b (W k u)) u) 0 out
+
 -- the lesser of the bill and the worth that is told
 pub applied_told : (W : ℕ → ℕ → ℕ) (k u b x : ℕ) → in_ranges k u b ≡ true → x ≡ told_worth W k u → min b x ≡ applied_credit W k u b
 applied_told W k u b x ok tells =
     ap (λ v. min b v) (tells ∙ cond-true (has_worth k u) (W k u) 0 (and_parts (has_worth k u) _ ok).0) ∙ sym (applied_inside W k u b ok)
 
--- what is said of the units w that a credit of c cents uses
-pub record Uses (W : ℕ → ℕ → ℕ) (k u b c w : ℕ) : Type 0 where
-  pub value : w ≡ units_used W k u b
+-- units that meet the rule are the units used
+pub used_is : (W : ℕ → ℕ → ℕ) (k u b c w : ℕ) → Lawful (W k) → in_ranges k u b ≡ true → Credited (W k) u b c w → w ≡ units_used W k u b
+used_is W k u b c w law ok p =
+    (one_credit (W k) u b c w _ _ p (credited (W k) u b law (held k u b ok))).1 ∙ sym (used_inside W k u b ok)
+
+-- what is meant by the credit that a method gives
+pub record Meant (W : ℕ → ℕ → ℕ) (k u b c w : ℕ) : Type 0 where
   pub within : Within u b c w
   pub meaning : in_ranges k u b ≡ true → TheCredit (W k) u b c w
 
--- inside the ranges, of units that meet the rule
-pub uses_inside : (W : ℕ → ℕ → ℕ) (k u b c w : ℕ) → Lawful (W k) → in_ranges k u b ≡ true → Credited (W k) u b c w → Uses W k u b c w
-unfolding units_used
-uses_inside W k u b c w law ok p =
-    let top : u ≤ 1_000_000_000_000 = held k u b ok in
-    let worth : c ≤ W k u = omega (arith, p.lesser, min-le_right b (W k u)) in
-    let is : smallest (W k) c u ≡ w = smallest_is (W k) c u w (λ i j a z. law.rises i j a (omega arith)) (p.fewest u worth) p.enough p.fewest in
+-- it follows from the two numbers, for any lawful worth
+pub meant : (W : ℕ → ℕ → ℕ) (k u b c w : ℕ) → (is_class k ≡ true → Lawful (W k)) → c ≡ applied_credit W k u b → w ≡ units_used W k u b → Meant W k u b c w
+meant W k u b c w law applied used =
     record {
-      value = sym (cond-true _ _ _ ok ∙ rw (← p.lesser) is);
-      within = record { units = p.fewest u worth; cents = omega (arith, p.lesser, min-le_left b (W k u)) };
-      meaning = λ _. (p, λ d v q. one_credit (W k) u b d v c w q p);
-    }
-
--- and outside, of none
-pub uses_outside : (W : ℕ → ℕ → ℕ) (k u b c : ℕ) → c ≡ applied_credit W k u b → in_ranges k u b ≡ false → Uses W k u b c 0
-unfolding units_used
-uses_outside W k u b c is out =
-    record {
-      value = sym (cond-false _ _ _ out);
-      within = record { units = omega arith; cents = omega (arith, is, applied_within W k u b) };
-      meaning = λ ok. absurd (both_ways _ out ok);
+      within = record { units = omega (arith, used, used_within W k u b); cents = omega (arith, applied, applied_within W k u b) };
+      meaning = λ ok.
+          let p : Credited (W k) u b c w = rw (applied ∙ applied_inside W k u b ok, used ∙ used_inside W k u b ok) (credited (W k) u b (law (of_class k u b ok)) (held k u b ok)) in
+          (p, λ d v q. one_credit (W k) u b d v c w q p);
     }

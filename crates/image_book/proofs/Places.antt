@@ -11,14 +11,14 @@ use Rattle.std.specs.Option.{option_to_list}
 use Rattle.accounts.specs.declared.record.Record.{Record}
 use Rattle.accounts.specs.Ranges.{in_range}
 use Rattle.accounts.specs.Books.{accounts, find, present, distinct, every}
-use Rattle.accounts.proofs.Finding.{found_present, distinct_push, present_push}
+use Rattle.accounts.proofs.Finding.{find_position, found_present, distinct_push, present_push}
 use Rattle.accounts.proofs.Keeping.{every_push}
 use Rattle.record_codec.specs.Codec.{decoded}
 use Rattle.record_codec.proofs.Inverse.{holds_decoded, in_range_decoded}
 use Rattle.image_book.specs.Images.{capacity_of, slot, slots_in, held, account_in}
 use Rattle.image_book.specs.Refusals.{unfit_after, unfit, first_unfit}
 use Rattle.image_book.specs.Reading.{Legible}
-use Rattle.image_book.proofs.Slots.{first_slots, find_position}
+use Rattle.image_book.proofs.Slots.{first_slots}
 
 pub some_of : {X : Type 0} (o : Option X) → is_some o ≡ true → (x : X) × (o ≡ Some x)
 some_of None h = let z : ◌≡◌ {A = ℕ} 0 1 = cc in absurd (omega arith)

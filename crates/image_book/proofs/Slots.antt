@@ -1,12 +1,10 @@
 -- The places of an image as a list of slots.
-use Rattle.std.proofs.Common.{◌≡◌, ℕ, zero, suc, ◌+◌, ◌-◌, ◌*◌, ◌/◌, ◌<◌, ◌≤◌, min, cond, eqb, ltb, List, [], ◌∷◌, map, length, get_or, take, drop, Some, None, sym, refl, ap, ◌∙◌, ⊎_elim, arith}
+use Rattle.std.proofs.Common.{◌≡◌, ℕ, zero, suc, ◌+◌, ◌-◌, ◌*◌, ◌/◌, ◌<◌, ◌≤◌, min, ltb, List, ◌∷◌, map, length, get_or, take, drop, None, sym, refl, ap, ◌∙◌, ⊎_elim, arith}
 use Rattle.std.proofs.lemmas.Bool.{cases_lt, cond-true, cond-false, lt-ltb, le-ltb}
 use Rattle.std.proofs.lemmas.List.{drop-drop, take_all, drop_all, length-drop}
 use Rattle.std.proofs.lemmas.List.FromFn.{length-map-range_with_len, get_or-map-range_with_len}
-use Rattle.std.proofs.lemmas.Iterator.Adapters.{position_from-zero}
-use Rattle.std.specs.List.{range_with_len, position, position_from}
+use Rattle.std.specs.List.{range_with_len}
 use Rattle.std.specs.Simd.{first_chunks}
-use Rattle.accounts.specs.Books.{find_from, find}
 use Rattle.record_codec.specs.Codec.{decoded}
 use Rattle.image_book.specs.Images.{capacity_of, slot, slots_in, record_at}
 
@@ -59,13 +57,7 @@ first_range f j (suc n) (suc m) h = ap (λ xs. f j ∷ xs) (first_range f (j + 1
 pub first_slots : (bs : List ℕ) (n : ℕ) → n ≤ capacity_of bs → take n (slots_in bs) ≡ map (λ i. slot i bs) (range_with_len 0 n)
 first_slots bs n h = first_range (λ i. slot i bs) 0 n (capacity_of bs) h
 
-found_from : {X : Type 0} (f : X → ℕ) (a i : ℕ) (xs : List X) → position_from (λ x. eqb (f x) a) i xs ≡ find_from i a (map f xs)
-found_from f a i [] = refl
-found_from f a i (x ∷ xs) = ap (cond (eqb (f x) a) (Some i)) (found_from f a (i + 1) xs)
-
--- the first place of a number is where a search finds it
-pub find_position : {X : Type 0} (f : X → ℕ) (a : ℕ) (xs : List X) → position (λ x. eqb (f x) a) xs ≡ find a (map f xs)
-find_position f a xs = position_from-zero (λ x. eqb (f x) a) xs ∙ found_from f a 0 xs
-
 pub record_here : (bs : List ℕ) (i : ℕ) → i < capacity_of bs → record_at bs i ≡ decoded (slot i bs)
 record_here bs i h = cond-true (ltb i (capacity_of bs)) (decoded (slot i bs)) None (lt-ltb i (capacity_of bs) h)
+
+pub ruleset slot_told = (slot_at, slot_past)

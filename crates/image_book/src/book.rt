@@ -38,8 +38,8 @@ impl<'a> ImageBook<'a> {
         }
     }
 
-    // The book that an image holds; an unfit image stays as it is, and makes a book of no room. A book whose image is opened
-    // again comes back.
+    // The book that an image holds; an unfit image stays as it is, and makes a book of no room. A book whose image is
+    // opened again comes back.
     pub fn open(image: &'a mut [u8]) -> ImageBook<'a>
         ensures image { image_of result ≡ image.old }
         ensures count { result.count ≡ opened_count image.old }
@@ -53,6 +53,7 @@ impl<'a> ImageBook<'a> {
     }
 
     // Puts a record after the last.
+    #[tactic(auto, using(crate::proofs::Changing::reads_added))]
     fn push(&mut self, new: Record)
         requires { takes (records_of self.old) (room_of self.old) new ≡ true }
         ensures image { Added true self.new self.old new }
@@ -105,6 +106,7 @@ impl<'a> AccountBook for ImageBook<'a> {
         layout::place_of(self.image, self.count, account)
     }
 
+    // `add` and `replace` stand in each book: in one place they would need a public `push` with a `requires`
     fn add(&mut self, new: Record) -> bool
         ensures answer { result ≡ takes (records_of self.old) (room_of self.old) new }
         ensures after { Left (Sound self.new) (contents_of self.new) (contents_of self.old) (added result (records_of self.old) new) }

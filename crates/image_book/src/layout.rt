@@ -5,12 +5,11 @@ ghost use Rattle.record_codec.specs.Bytes.{written};
 ghost use Rattle.record_codec.specs.Codec.{encoded};
 ghost use Rattle.image_book.specs.Images.{count_at, capacity_of, start_of, slots_in, record_at, account_in};
 
+use accounts::limits::MOST_RECORDS;
 use accounts::record::Record;
 use record_codec::codec::{RECORD_BYTES, decode, encode};
 
 const COUNT_BYTES: usize = 4;
-
-const MOST_RECORDS: usize = 4_096;
 
 // The count in the first four bytes, or nothing where there are fewer.
 pub(crate) fn count(image: &[u8]) -> Option<usize>
@@ -21,6 +20,7 @@ pub(crate) fn count(image: &[u8]) -> Option<usize>
 }
 
 // The places for records: whole slots after the count, at most 4,096.
+#[tactic(auto, using(crate::proofs::Slots::slots_read))]
 fn slots(image: &[u8]) -> &[[u8; RECORD_BYTES]]
     ensures { result.now ≡ slots_in image.now }
 {
@@ -30,6 +30,7 @@ fn slots(image: &[u8]) -> &[[u8; RECORD_BYTES]]
 }
 
 // How many places there are.
+#[tactic(auto, using(crate::proofs::Slots::length_slots))]
 pub(crate) fn capacity(image: &[u8]) -> usize
     ensures { result ≡ capacity_of image.now }
 {
@@ -37,6 +38,7 @@ pub(crate) fn capacity(image: &[u8]) -> usize
 }
 
 // The record at a place, or nothing where the image has no such place or its bytes are those of no record in range.
+#[tactic(auto, using(crate::proofs::Slots::slot_told))]
 pub(crate) fn record_at(image: &[u8], place: usize) -> Option<Record>
     ensures { result ≡ record_at image.now place }
 {
@@ -55,6 +57,7 @@ pub(crate) fn place_of(image: &[u8], end: usize, account: u64) -> Option<usize>
 }
 
 // The account number that leads a slot.
+#[tactic(auto, unfolding(crate::specs::Images::account_in))]
 fn account_in(slot: &[u8; RECORD_BYTES]) -> u64
     ensures { result ≡ account_in slot.now }
 {

@@ -1,5 +1,5 @@
 -- In a list with no account twice, an account that stands at a place is found there and nowhere else.
-use Rattle.std.proofs.Common.{◌≡◌, ℕ, zero, suc, ◌+◌, ◌<◌, Bool, true, false, not, eqb, List, [], ◌∷◌, Some, None, Option, refl, ap, ◌∙◌, arith}
+use Rattle.std.proofs.Common.{◌≡◌, ℕ, zero, suc, ◌+◌, ◌<◌, Bool, true, false, not, eqb, List, [], ◌∷◌, Some, None, Option, MatchOption, refl, ap, ◌∙◌, arith}
 use Rattle.std.proofs.lemmas.Bool.{and_parts}
 use Rattle.std.proofs.lemmas.Bool.Decides.{nat_tests}
 use Rattle.std.specs.List.{slice_get}
@@ -11,6 +11,11 @@ use Rattle.indexed_book.specs.Hints.{is_at}
 abbrev pub has : Option Record → ℕ → Bool
 has None a = false
 has (Some r) a = eqb r.account a
+
+-- what a test of that record answers
+pub answered : (a : ℕ) (o : Option Record) (b : Bool) (Tested : Record → Type 0) → MatchOption o (b ≡ false) Tested → ((r : Record) → Tested r → b ≡ eqb r.account a) → b ≡ has o a
+answered a None b Tested h f = h
+answered a (Some r) b Tested h f = f r h
 
 -- an account that stands at a place is present
 standing_present : (a i : ℕ) (rs : List Record) → has (slice_get rs i) a ≡ true → present a (accounts rs) ≡ true

@@ -27,8 +27,3 @@ contents_with loan contents = record contents { loans = loan ∷ contents.loans 
 abbrev pub is_at : Option ℕ → ℕ → Bool
 is_at None place = false
 is_at (Some found) place = found == place
-
--- a place that is told, or what is found otherwise
-abbrev pub or_else : Option ℕ → Option ℕ → Option ℕ
-or_else None found = found
-or_else (Some place) found = Some place

@@ -1,10 +1,11 @@
 // An account book over any account book, which finds an account by hints of the place where it stands.
 #![tactic(auto)]
 
-ghost use Rattle.std.specs.Prelude.{◌≡◌, ℕ, length, Some, None, MatchOption, slice_index_or};
+ghost use Rattle.std.specs.Prelude.{◌≡◌, ℕ, length, Some, None, IfSome, MatchOption, slice_index_or};
 ghost use Rattle.std.specs.List.{slice_get};
+ghost use Rattle.std.specs.Option.{option_or};
 ghost use Rattle.accounts.specs.Books.{accounts, find, takes, added, Left};
-ghost use Rattle.indexed_book.specs.Hints.{Slot, book_of, hints_of, loan_of, contents_with, is_at, or_else};
+ghost use Rattle.indexed_book.specs.Hints.{Slot, book_of, hints_of, loan_of, contents_with, is_at};
 
 use accounts::book::AccountBook;
 use accounts::record::Record;
@@ -22,18 +23,19 @@ fn slot(slots: usize, account: u64, looks: u64) -> Option<usize>
     Some((account.wrapping_add(looks) % slots as u64) as usize)
 }
 
+// That slot, where it is free.
+fn free_slot(hints: &[Option<usize>], account: u64, looks: u64) -> Option<usize>
+    ensures { IfSome result (λ s. slice_get hints.now s ≡ Some None) }
+{
+    slot(hints.len(), account, looks).filter(|slot| hints[*slot].is_none())
+}
+
 // Notes the place of an account in the first free slot that a search for it looks at; in none, where none is free.
 fn note(hints: &mut [Option<usize>], account: u64, place: usize)
     ensures { (i p : ℕ) → slice_get hints.old i ≡ Some (Some p) → slice_get hints.new i ≡ Some (Some p) }
 {
-    for looks in 0..MOST_LOOKS {
-        let Some(slot) = slot(hints.len(), account, looks) else {
-            return;
-        };
-        if hints[slot].is_none() {
-            hints[slot] = Some(place);
-            return;
-        }
+    if let Some(slot) = (0..MOST_LOOKS).find_map(|looks| free_slot(hints, account, looks)) {
+        hints[slot] = Some(place);
     }
 }
 
@@ -42,7 +44,7 @@ fn note(hints: &mut [Option<usize>], account: u64, place: usize)
 #[derive(Drop)]
 pub struct IndexedBook<'a, 'h, B> {
     book: &'a mut B,
-    // none in a free slot
+    // none in a free slot; lent, since nothing here allocates and a call of a book cannot fail for want of memory
     hints: &'h mut [Option<usize>],
 }
 
@@ -53,6 +55,7 @@ impl<'a, 'h, B: AccountBook> IndexedBook<'a, 'h, B> {
         ensures loan { loan_of result ≡ book.entry.ghost_name }
     {
         hints.fill(None);
+        // a book is read by place: an iterator over it would be one type more, for this loop alone
         for place in 0..book.count() {
             if let Some(record) = book.get(place) {
                 note(hints, record.account, place);
@@ -73,23 +76,17 @@ impl<'a, 'h, B: AccountBook> IndexedBook<'a, 'h, B> {
     fn stands_at(&self, account: u64, place: usize) -> bool
         ensures { B.AccountBook.sound (book_of self.now) → result ≡ is_at (find account (accounts (B.AccountBook.contents (book_of self.now)).records)) place }
     {
-        match self.get(place) {
-            Some(record) => record.account == account,
-            None => false,
-        }
+        self.get(place)
+            .is_some_and(|record| record.account == account)
     }
 
     // The place of an account by the hints; nothing where they do not tell it.
     fn hinted(&self, account: u64) -> Option<usize>
-        ensures { B.AccountBook.sound (book_of self.now) → or_else result (find account (accounts (B.AccountBook.contents (book_of self.now)).records)) ≡ find account (accounts (B.AccountBook.contents (book_of self.now)).records) }
+        ensures { B.AccountBook.sound (book_of self.now) → option_or result (find account (accounts (B.AccountBook.contents (book_of self.now)).records)) ≡ find account (accounts (B.AccountBook.contents (book_of self.now)).records) }
     {
-        for looks in 0..MOST_LOOKS {
-            let place = self.hint(account, looks)?;
-            if self.stands_at(account, place) {
-                return Some(place);
-            }
-        }
-        None
+        (0..MOST_LOOKS)
+            .map_while(|looks| self.hint(account, looks))
+            .find(|place| self.stands_at(account, *place))
     }
 }
 
@@ -113,10 +110,7 @@ impl<'a, 'h, B: AccountBook> AccountBook for IndexedBook<'a, 'h, B> {
     }
 
     fn search(&self, account: u64) -> Option<usize> {
-        match self.hinted(account) {
-            Some(place) => Some(place),
-            None => self.book.search(account),
-        }
+        self.hinted(account).or_else(|| self.book.search(account))
     }
 
     fn add(&mut self, new: Record) -> bool {
@@ -133,8 +127,8 @@ impl<'a, 'h, B: AccountBook> AccountBook for IndexedBook<'a, 'h, B> {
     }
 }
 
-// Adds a record to a book through its hints, and lets the hints go: the book answers and is left as if it had been asked
-// itself.
+// Adds a record to a book through its hints, and lets the hints go: the book answers and is left as if it had been
+// asked itself.
 pub fn add_indexed<B: AccountBook>(book: &mut B, hints: &mut [Option<usize>], new: Record) -> bool
     ensures answer { B.AccountBook.sound book.old → result ≡ takes (B.AccountBook.contents book.old).records (B.AccountBook.contents book.old).room new }
     ensures after { B.AccountBook.sound book.old → Left (B.AccountBook.sound book.new) (B.AccountBook.contents book.new) (B.AccountBook.contents book.old) (added result (B.AccountBook.contents book.old).records new) }

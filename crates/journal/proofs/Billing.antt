@@ -1,5 +1,5 @@
 -- A bill and a final bill keep what stands, and each bill keeps its rule.
-use Rattle.std.proofs.Common.{◌≡◌, ℕ, ◌+◌, ◌-◌, ◌*◌, ◌≤◌, true, false, cond, eqb, ltb, ◌≢◌, List, ◌∷◌, length, Some, None, Ok, Err, Option, Result, refl, ap, subst₂, arith}
+use Rattle.std.proofs.Common.{◌≡◌, ℕ, ◌+◌, ◌-◌, ◌*◌, ◌≤◌, true, false, cond, eqb, ltb, ◌≢◌, List, ◌∷◌, length, Some, None, Ok, Err, Option, Result, refl, ap, subst₂, arith, sum_by}
 use Rattle.std.proofs.lemmas.Bool.{cond_both, cond-false, cond-true, eq-eqb, le-ltb, ltb-false}
 use Rattle.accounts.specs.declared.record.Record.{Record}
 use Rattle.crediting.specs.Fewest.{used_within}
@@ -15,7 +15,6 @@ use Rattle.ledger.specs.Refusals.{number}
 use Rattle.ledger.specs.Rules.{counted}
 use Rattle.ledger.specs.States.{State}
 use Rattle.ledger.specs.Steps.{bill, bill_judged, final_bill, final_judged, judge_bill, judge_record, posting}
-use Rattle.ledger.specs.Sums.{total}
 use Rattle.journal.specs.Histories as history
 use Rattle.journal.specs.Histories.{Event, History, class_of, disbursed_to, given, of_account, percentage_of, shares_of, used_by}
 use Rattle.ledger.specs.Phases.{fees_in}
@@ -23,10 +22,10 @@ use Rattle.journal.specs.Laws.{BillRule}
 use Rattle.crediting.specs.Fewest.{applied_within}
 use Rattle.journal.proofs.Amounts.{counted_within, credited, in_range_all, net_and_fee}
 use Rattle.ledger.proofs.Fees.{fee_covers}
-use Rattle.ledger.proofs.Found.{found_account, found_within, put_length, put_total}
+use Rattle.ledger.proofs.Found.{found_account, found_within, put_length, put_sum}
 use Rattle.journal.proofs.Standing.{Kept, Stands, Ties, billed_in, bounds_at, keeps_declined}
 use Rattle.journal.proofs.Ties.{TiedOpen, found_tie, held_tie, put_ties, tied_same}
-use Rattle.ledger.proofs.Totals.{count_within}
+use Rattle.std.proofs.lemmas.List.Sums.{count_by-le-length, sum_by-cons}
 
 -- the record that a bill is of: its account open, not yet billed in the period, and the bill in range
 record Billable (account cents period : ℕ) (rs : List Record) (r : Record) : Type 0 where
@@ -37,19 +36,19 @@ record Billable (account cents period : ℕ) (rs : List Record) (r : Record) : T
 
 -- what the records come to with n, billed in the period, in the place of r
 record Replaced (period : ℕ) (n r : Record) (rs : List Record) : Type 0 where
-  held : total (λ x. x.held) (put n rs) + r.held ≡ total (λ x. x.held) rs + n.held
-  whole : total (λ x. x.percentage) (put n rs) + r.percentage ≡ total (λ x. x.percentage) rs + n.percentage
+  held : sum_by (λ x. x.held) (put n rs) + r.held ≡ sum_by (λ x. x.held) rs + n.held
+  whole : sum_by (λ x. x.percentage) (put n rs) + r.percentage ≡ sum_by (λ x. x.percentage) rs + n.percentage
   size : length (put n rs) ≡ length rs
   count : billed_in period (put n rs) ≡ billed_in period rs + 1
 
 replaced : (account cents period : ℕ) (n r : Record) (rs : List Record) → n.account ≡ account → n.last ≡ period → Billable account cents period rs r → Replaced period n r rs
 replaced account cents period n r rs same last b =
-    let sum = put_total (λ (x : Record). cond (eqb x.last period) 1 0) account n rs r same b.found in
+    let sum = put_sum (λ (x : Record). cond (eqb x.last period) 1 0) account n rs r same b.found in
     let before = cond-false {A = ℕ} (eqb r.last period) 1 0 b.unbilled in
     let now = cond-true {A = ℕ} (eqb n.last period) 1 0 (eq-eqb n.last period last) in
     record {
-      held = put_total (λ x. x.held) account n rs r same b.found;
-      whole = put_total (λ x. x.percentage) account n rs r same b.found;
+      held = put_sum (λ x. x.held) account n rs r same b.found;
+      whole = put_sum (λ x. x.percentage) account n rs r same b.found;
       size = put_length n rs;
       count = omega arith;
     }
@@ -67,7 +66,7 @@ module _ {M : Type 0} (worth : M → ℕ → ℕ → ℕ) where
       low : (r : Record) → cents ≤ 1_000_000_000 → applied + counted r.kind (posting (worth m) r cents).applied ≤ 10000000000000
       low r small =
           let bounds = bounds_at s.phase applied fees _ at i.bounds in
-          let few = count_within (λ (x : Record). eqb x.last (s.closed + 1)) s.records in
+          let few = count_by-le-length (λ (x : Record). eqb x.last (s.closed + 1)) s.records in
           let one = counted_within r.kind (posting (worth m) r cents).applied in
           let own = applied_within (worth m) r.class r.held cents in
           omega (arith, bounds.small, i.fits, i.few)
@@ -137,7 +136,7 @@ module _ {M : Type 0} (worth : M → ℕ → ℕ → ℕ) where
               fits = omega (arith, i.fits, q.size);
               few = i.few;
               whole = omega (arith, i.whole, q.whole);
-              readings = omega (arith, i.readings);
+              readings = omega (arith, sum_by-cons {X = Event M}, i.readings);
               within = i.within;
               bounds = omega (arith, f.paid, f.small, bounds, q.count);
               ties = put_ties (Ties worth h) (Ties worth (e ∷ h)) account n s.records r same b.found
@@ -145,8 +144,8 @@ module _ {M : Type 0} (worth : M → ℕ → ℕ → ℕ) where
                   (λ a o other t. let none : of_account a account p.used ≡ 0 = cond-false _ _ _ other in tied_same _ _ _ (used_by a h) _ _ _ o refl refl (omega arith) t)
                   i.ties;
               law = record {
-                units = omega (arith, i.law.units, f.inside, q.held);
-                cents = omega (arith, i.law.cents, f.split);
+                units = omega (arith, sum_by-cons {X = Event M}, i.law.units, f.inside, q.held);
+                cents = omega (arith, sum_by-cons {X = Event M}, i.law.cents, f.split);
                 each = (f.rule, i.law.each);
               };
             };
@@ -177,15 +176,15 @@ module _ {M : Type 0} (worth : M → ℕ → ℕ → ℕ) where
               fits = omega (arith, i.fits, q.size);
               few = i.few;
               whole = omega (arith, i.whole, q.whole);
-              readings = omega (arith, i.readings);
+              readings = omega (arith, sum_by-cons {X = Event M}, i.readings);
               within = i.within;
               bounds = omega (arith, f.paid, f.small, bounds, q.count);
               ties = put_ties (Ties worth h) (Ties worth (e ∷ h)) account n s.records r same b.found tt
                   (λ a o other t. let none : of_account a account p.used ≡ 0 = cond-false _ _ _ other in tied_same _ _ _ (used_by a h) _ _ _ o (cond-false _ _ _ other) refl (omega arith) t)
                   i.ties;
               law = record {
-                units = omega (arith, i.law.units, f.inside, q.held);
-                cents = omega (arith, i.law.cents, f.split);
+                units = omega (arith, sum_by-cons {X = Event M}, i.law.units, f.inside, q.held);
+                cents = omega (arith, sum_by-cons {X = Event M}, i.law.cents, f.split);
                 each = (f.rule, i.law.each);
               };
             };

@@ -1,5 +1,5 @@
 -- An enrolment keeps what stands.
-use Rattle.std.proofs.Common.{◌≡◌, ℕ, ◌+◌, ◌≤◌, List, map, length, vec_items, Vec, refl, arith}
+use Rattle.std.proofs.Common.{◌≡◌, ℕ, ◌+◌, ◌≤◌, List, map, length, vec_items, Vec, refl, arith, sum_by}
 use Rattle.std.proofs.lemmas.List.{length-map}
 use Rattle.std.specs.declared.alloc.Global.{Global}
 use Rattle.accounts.specs.declared.record.Line.{Line}
@@ -10,30 +10,30 @@ use Rattle.ledger.specs.Lines.{enrolled, new_accounts}
 use Rattle.ledger.specs.Records.{record_of, unallocated}
 use Rattle.ledger.specs.States.{State}
 use Rattle.ledger.specs.Steps.{enrol, enrol_judged}
-use Rattle.ledger.specs.Sums.{total}
 use Rattle.journal.specs.Histories as history
-use Rattle.journal.specs.Histories.{History, class_of, disbursed_to, percentage_of, shares_of, used_by}
+use Rattle.journal.specs.Histories.{Event, History, class_of, disbursed_to, percentage_of, shares_of, used_by}
 use Rattle.journal.proofs.Entering.{entered_found, entered_held, entered_length, entered_percentages}
 use Rattle.ledger.proofs.Entering.{unallocated_accounts}
 use Rattle.ledger.proofs.Requests.{judged}
 use Rattle.ledger.proofs.Found.{map_found}
 use Rattle.journal.proofs.Standing.{Kept, Stands, keeps_declined, unbounded}
 use Rattle.journal.proofs.Ties.{entry_tie}
-use Rattle.ledger.proofs.Totals.{total_map, total_nothing}
+use Rattle.ledger.proofs.Totals.{sum_by-map, sum_by_nothing}
+use Rattle.std.proofs.lemmas.List.Sums.{sum_by-cons}
 
 -- what the records come to
 record Entered (rs : List Record) (ls : List Line) : Type 0 where
   size : length (enrolled rs ls) ≤ length rs + new_accounts rs ls
-  whole : total (λ r. r.percentage) (enrolled rs ls) ≤ total (λ l. l.percentage) ls
-  held : total (λ r. r.held) (enrolled rs ls) ≡ total (λ r. r.held) rs
+  whole : sum_by (λ r. r.percentage) (enrolled rs ls) ≤ sum_by (λ l. l.percentage) ls
+  held : sum_by (λ r. r.held) (enrolled rs ls) ≡ sum_by (λ r. r.held) rs
 
 entered : (rs : List Record) (ls : List Line) → Entered rs ls
 entered rs ls =
     let none : List Record = map unallocated rs in
     let length₀ = length-map rs unallocated in
-    let percent₀ = total_map (λ (r : Record). r.percentage) unallocated rs in
-    let zero₀ = total_nothing rs in
-    let held₀ = total_map (λ (r : Record). r.held) unallocated rs in
+    let percent₀ = sum_by-map (λ (r : Record). r.percentage) unallocated rs in
+    let zero₀ = sum_by_nothing rs in
+    let held₀ = sum_by-map (λ (r : Record). r.held) unallocated rs in
     record {
       size = omega (arith, entered_length rs none ls (λ a p. rw unallocated_accounts p));
       whole = omega (arith, entered_percentages none ls);
@@ -55,11 +55,11 @@ module _ {M : Type 0} (worth : M → ℕ → ℕ → ℕ) where
           fits = omega (arith, n.size, ok.fits, i.fits);
           few = i.few;
           whole = omega (arith, n.whole, ok.whole);
-          readings = omega (arith, i.readings);
+          readings = omega (arith, sum_by-cons {X = Event M}, i.readings);
           within = i.within;
           bounds = unbounded s.phase _ at;
           ties = λ a. rw (entered_found a (map unallocated s.records) (vec_items ls) ok.apart, map_found unallocated (λ r. refl) a s.records)
               (entry_tie _ _ _ _ a 0 (record_of a s.records) (vec_items ls) ok.ranged (i.ties a));
-          law = record { units = omega (arith, i.law.units, n.held); cents = omega (arith, i.law.cents); each = (tt, i.law.each) };
+          law = record { units = omega (arith, sum_by-cons {X = Event M}, i.law.units, n.held); cents = omega (arith, sum_by-cons {X = Event M}, i.law.cents); each = (tt, i.law.each) };
         };
       })

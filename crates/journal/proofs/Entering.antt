@@ -1,5 +1,5 @@
 -- What the lines of a request make of the records: who has a record and which, how many there are, and their sums.
-use Rattle.std.proofs.Common.{◌≡◌, ℕ, ◌+◌, ◌≤◌, Bool, true, false, cond, not, eqb, List, [], ◌∷◌, length, is_some, Some, None, Option, sym, refl, ap, ◌∙◌, arith}
+use Rattle.std.proofs.Common.{◌≡◌, ℕ, ◌+◌, ◌≤◌, Bool, true, false, cond, not, eqb, List, [], ◌∷◌, length, is_some, Some, None, Option, sym, refl, ap, ◌∙◌, arith, sum_by}
 use Rattle.std.proofs.lemmas.List.{length_push, map_push}
 use Rattle.std.proofs.lemmas.Bool.{and_parts, eqb-true, not-true}
 use Rattle.std.proofs.lemmas.Bool.Decides.{nat_tests}
@@ -7,11 +7,10 @@ use Rattle.accounts.proofs.Finding.{present_push}
 use Rattle.accounts.specs.declared.record.Line.{Line}
 use Rattle.accounts.specs.declared.record.Record.{Record}
 use Rattle.accounts.specs.Books.{accounts, present, distinct}
-use Rattle.ledger.specs.Lines.{enter, enter_all, is_new, line_accounts, new_accounts}
+use Rattle.ledger.specs.Lines.{enter, enter_all, is_new, joins, line_accounts, new_accounts}
 use Rattle.ledger.specs.Records.{allocated, joining, record_of}
-use Rattle.ledger.specs.Sums.{total}
-use Rattle.ledger.proofs.Found.{found_account, push_found, put_found, put_length, put_total, present_found, accounts_put}
-use Rattle.ledger.proofs.Totals.{total_push}
+use Rattle.ledger.proofs.Found.{found_account, push_found, put_found, put_length, put_sum, present_found, accounts_put}
+use Rattle.std.proofs.lemmas.List.Sums.{sum_by-cons, sum_by_push}
 
 -- a line's values for an account that has a record, or has none
 abbrev pub placed : Line → Option Record → Record
@@ -63,26 +62,26 @@ entered_length rs₀ rs (l ∷ ls) sub =
     let o : Option Record = record_of l.account rs in
     let one = enter_length rs₀ rs l o (λ p. sym (present_found l.account rs) ∙ sub l.account p) in
     let ih = entered_length rs₀ (enter o rs l) ls (λ a p. enter_present a rs l o (sub a p)) in
-    omega arith
+    omega (arith, sum_by-cons (joins rs₀) l ls)
 
-enter_percentages : (rs : List Record) (l : Line) (o : Option Record) → record_of l.account rs ≡ o → total (λ r. r.percentage) (enter o rs l) ≤ total (λ r. r.percentage) rs + l.percentage
-enter_percentages rs l None e = omega (arith, total_push (λ r. r.percentage) rs (joining l))
+enter_percentages : (rs : List Record) (l : Line) (o : Option Record) → record_of l.account rs ≡ o → sum_by (λ r. r.percentage) (enter o rs l) ≤ sum_by (λ r. r.percentage) rs + l.percentage
+enter_percentages rs l None e = omega (arith, sum_by_push (λ r. r.percentage) rs (joining l))
 enter_percentages rs l (Some r) e =
-    omega (arith, put_total (λ r. r.percentage) l.account (allocated l r) rs r (found_account l.account rs r e) e)
+    omega (arith, put_sum (λ r. r.percentage) l.account (allocated l r) rs r (found_account l.account rs r e) e)
 
-pub entered_percentages : (rs : List Record) (ls : List Line) → total (λ r. r.percentage) (enter_all rs ls) ≤ total (λ r. r.percentage) rs + total (λ l. l.percentage) ls
+pub entered_percentages : (rs : List Record) (ls : List Line) → sum_by (λ r. r.percentage) (enter_all rs ls) ≤ sum_by (λ r. r.percentage) rs + sum_by (λ l. l.percentage) ls
 entered_percentages rs [] = omega arith
 entered_percentages rs (l ∷ ls) =
     let one = enter_percentages rs l (record_of l.account rs) refl in
     let ih = entered_percentages (enter (record_of l.account rs) rs l) ls in
-    omega arith
+    omega (arith, sum_by-cons (λ (x : Line). x.percentage) l ls)
 
-enter_held : (rs : List Record) (l : Line) (o : Option Record) → record_of l.account rs ≡ o → total (λ r. r.held) (enter o rs l) ≡ total (λ r. r.held) rs
-enter_held rs l None e = omega (arith, total_push (λ r. r.held) rs (joining l))
+enter_held : (rs : List Record) (l : Line) (o : Option Record) → record_of l.account rs ≡ o → sum_by (λ r. r.held) (enter o rs l) ≡ sum_by (λ r. r.held) rs
+enter_held rs l None e = omega (arith, sum_by_push (λ r. r.held) rs (joining l))
 enter_held rs l (Some r) e =
-    omega (arith, put_total (λ r. r.held) l.account (allocated l r) rs r (found_account l.account rs r e) e)
+    omega (arith, put_sum (λ r. r.held) l.account (allocated l r) rs r (found_account l.account rs r e) e)
 
-pub entered_held : (rs : List Record) (ls : List Line) → total (λ r. r.held) (enter_all rs ls) ≡ total (λ r. r.held) rs
+pub entered_held : (rs : List Record) (ls : List Line) → sum_by (λ r. r.held) (enter_all rs ls) ≡ sum_by (λ r. r.held) rs
 entered_held rs [] = refl
 entered_held rs (l ∷ ls) =
     entered_held (enter (record_of l.account rs) rs l) ls ∙ enter_held rs l (record_of l.account rs) refl

@@ -1,5 +1,5 @@
 -- A reading and a disbursement keep what stands.
-use Rattle.std.proofs.Common.{◌≡◌, ℕ, ◌+◌, ◌-◌, ◌≤◌, false, ◌||◌, eqb, ltb, leb, List, [], ◌∷◌, map, Some, None, Option, refl, ap, ◌∙◌, mul-le-mul_left, arith}
+use Rattle.std.proofs.Common.{◌≡◌, ℕ, ◌+◌, ◌-◌, ◌≤◌, false, ◌||◌, eqb, ltb, leb, List, [], ◌∷◌, map, Some, None, Option, sym, refl, ap, ◌∙◌, mul-le-mul_left, arith, sum_by}
 use Rattle.std.proofs.lemmas.List.{length-map}
 use Rattle.std.proofs.lemmas.Bool.{cond-false, cond-true, eq-eqb, le-ltb, ltb-false, or_from, or_parts}
 use Rattle.std.specs.List.{list_any}
@@ -13,28 +13,30 @@ use Rattle.ledger.specs.Records.{gaining, holding, is_closed, put, record_of}
 use Rattle.ledger.specs.Rules.{share}
 use Rattle.ledger.specs.States.{State, Outcome, performed}
 use Rattle.ledger.specs.Steps.{disburse, disburse_to, foreign_to_reading, reading, shares}
-use Rattle.ledger.specs.Sums.{total}
 use Rattle.journal.specs.Histories as history
-use Rattle.journal.specs.Histories.{History, class_of, disbursed_to, given, percentage_of, shares_of, used_by}
+use Rattle.journal.specs.Histories.{Event, History, class_of, disbursed_to, given, percentage_of, shares_of, used_by}
 use Rattle.ledger.specs.Phases.{fees_in}
-use Rattle.ledger.proofs.Found.{found_account, found_within, map_found, put_length, put_total}
+use Rattle.ledger.proofs.Found.{found_account, found_within, map_found, put_length, put_sum}
 use Rattle.journal.proofs.Standing.{Kept, Stands, Ties, keeps_declined, keeps_past, keeps_unless, unbounded}
 use Rattle.journal.proofs.Ties.{found_tie, gain_tie, held_tie, put_ties, tied_same}
-use Rattle.ledger.proofs.Totals.{shares_within, total_map, total_plus}
+use Rattle.ledger.proofs.Totals.{shares_within, sum_by-map, sum_by_plus}
+use Rattle.std.proofs.lemmas.List.Sums.{sum_by-cons}
 
 -- no element passes what all are together
-none_pass : {X : Type 0} (f : X → ℕ) (xs : List X) (n : ℕ) → total f xs ≤ n → list_any (λ x. ltb n (f x)) xs ≡ false
+none_pass : {X : Type 0} (f : X → ℕ) (xs : List X) (n : ℕ) → sum_by f xs ≤ n → list_any (λ x. ltb n (f x)) xs ≡ false
 none_pass f [] n h = refl
-none_pass f (x ∷ xs) n h = or_from (ltb n (f x)) _ (le-ltb n (f x) (omega arith)) (none_pass f xs n (omega arith))
+none_pass f (x ∷ xs) n h =
+    let all = sum_by-cons f x xs in
+    or_from (ltb n (f x)) _ (le-ltb n (f x) (omega arith)) (none_pass f xs n (omega arith))
 
 -- the shares of a reading are within it
-shares_fit : (units : ℕ) (rs : List Record) → total (λ r. r.percentage) rs ≤ 100000 → shares units rs ≤ units
+shares_fit : (units : ℕ) (rs : List Record) → sum_by (λ r. r.percentage) rs ≤ 100000 → shares units rs ≤ units
 shares_fit units rs whole =
-    omega (arith, shares_within units (λ (r : Record). r.percentage) rs, mul-le-mul_left {m = total (λ r. r.percentage) rs} {n = 100000} units whole)
+    omega (arith, shares_within units (λ (r : Record). r.percentage) rs, mul-le-mul_left {m = sum_by (λ r. r.percentage) rs} {n = 100000} units whole)
 
 -- what the records hold after it
-gained_held : (units : ℕ) (rs : List Record) → total (λ r. r.held) (map (gaining units) rs) ≡ total (λ r. r.held) rs + shares units rs
-gained_held units rs = total_map (λ r. r.held) (gaining units) rs ∙ total_plus (λ r. r.held) (λ r. share units r.percentage) rs
+gained_held : (units : ℕ) (rs : List Record) → sum_by (λ r. r.held) (map (gaining units) rs) ≡ sum_by (λ r. r.held) rs + shares units rs
+gained_held units rs = sum_by-map (λ r. r.held) (gaining units) rs ∙ sym (sum_by_plus (λ r. r.held) (λ r. share units r.percentage) rs)
 
 -- what an accepted reading leaves
 abbrev gained : State → ℕ → Outcome
@@ -49,14 +51,14 @@ moved s units r =
     (Disbursed (s.bank - units))
 
 module _ {M : Type 0} (worth : M → ℕ → ℕ → ℕ) where
-  held_within : (h : History M) (s : State) → Stands worth h s → s.bank + total (λ r. r.held) s.records ≤ s.read
+  held_within : (h : History M) (s : State) → Stands worth h s → s.bank + sum_by (λ r. r.held) s.records ≤ s.read
   held_within h s i = omega (arith, i.law.units, i.readings)
 
   -- a book of this run is never another ledger's
   not_foreign : (h : History M) (s : State) (units : ℕ) → Stands worth h s → s.read + units ≤ 1_000_000_000_000 → foreign_to_reading units s.records ≡ false
   not_foreign h s units i small =
       let fit = shares_fit units s.records i.whole in
-      let sum = total_plus (λ r. r.held) (λ r. share units r.percentage) s.records in
+      let sum = sum_by_plus (λ r. r.held) (λ r. share units r.percentage) s.records in
       or_from _ _ (le-ltb 100000 _ i.whole) (none_pass (λ r. r.held + share units r.percentage) s.records 1000000000000 (omega (arith, held_within h s i)))
 
   keeps_gains : (h : History M) (s : State) (units : ℕ) → s.phase ≡ Between → Stands worth h s → s.read + units ≤ 1_000_000_000_000 → Kept worth h (call.Reading units) (gained s units)
@@ -65,7 +67,7 @@ module _ {M : Type 0} (worth : M → ℕ → ℕ → ℕ) where
       let shut : fees_in s.phase ≡ 0 = ap (fees_in) at in
       let fit = shares_fit units s.records i.whole in
       let held = gained_held units s.records in
-      let same = total_map (λ (r : Record). r.percentage) (gaining units) s.records in
+      let same = sum_by-map (λ (r : Record). r.percentage) (gaining units) s.records in
       let size = length-map s.records (gaining units) in
       record {
         event = history.opened units (s.closed + 1);
@@ -75,11 +77,11 @@ module _ {M : Type 0} (worth : M → ℕ → ℕ → ℕ) where
           fits = omega (arith, i.fits);
           few = i.few;
           whole = omega (arith, i.whole);
-          readings = omega (arith, i.readings);
+          readings = omega (arith, sum_by-cons {X = Event M}, i.readings);
           within = small;
           bounds = record { paid = omega arith; small = omega arith };
           ties = λ a. rw (map_found (gaining units) (λ r. refl) a s.records) (gain_tie units _ _ (given a h) _ _ (record_of a s.records) (omega arith) (i.ties a));
-          law = record { units = omega (arith, i.law); cents = omega (arith, i.law); each = (tt, i.law.each) };
+          law = record { units = omega (arith, sum_by-cons {X = Event M}, i.law); cents = omega (arith, sum_by-cons {X = Event M}, i.law); each = (tt, i.law.each) };
         };
       }
 
@@ -99,8 +101,8 @@ module _ {M : Type 0} (worth : M → ℕ → ℕ → ℕ) where
       let n : Record = holding (r.held + units) r in
       let same = found_account account s.records r e in
       let t = found_tie _ _ _ _ _ r e unclosed (i.ties account) in
-      let held = put_total (λ r. r.held) account n s.records r same e in
-      let whole = put_total (λ r. r.percentage) account n s.records r same e in
+      let held = put_sum (λ r. r.held) account n s.records r same e in
+      let whole = put_sum (λ r. r.percentage) account n s.records r same e in
       let size = put_length n s.records in
       let own : history.of_account account account units ≡ units = cond-true _ _ _ (eq-eqb account account refl) in
       let tie : Ties worth (history.disbursed account units (s.bank - units) ∷ h) account (Some n) = held_tie _ _ _ _ _ _ (r.held + units) r.last r (omega (arith, t.holds)) t in
@@ -112,13 +114,13 @@ module _ {M : Type 0} (worth : M → ℕ → ℕ → ℕ) where
           fits = omega (arith, i.fits);
           few = i.few;
           whole = omega (arith, i.whole);
-          readings = omega (arith, i.readings);
+          readings = omega (arith, sum_by-cons {X = Event M}, i.readings);
           within = i.within;
           bounds = unbounded s.phase _ at;
           ties = put_ties (Ties worth h) (Ties worth (history.disbursed account units (s.bank - units) ∷ h)) account n s.records r same e tie
               (λ b o other t. let none : history.of_account b account units ≡ 0 = cond-false _ _ _ other in tied_same _ _ (given b h) _ _ _ _ o refl (omega arith) refl t)
               i.ties;
-          law = record { units = omega (arith, i.law); cents = omega (arith, i.law); each = (tt, i.law.each) };
+          law = record { units = omega (arith, sum_by-cons {X = Event M}, i.law); cents = omega (arith, sum_by-cons {X = Event M}, i.law); each = (tt, i.law.each) };
         };
       }
 

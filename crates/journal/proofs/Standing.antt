@@ -1,6 +1,7 @@
 -- What stands after every call of a run: the law so far, and what ties the ledger and its records to the history.
-use Rattle.std.proofs.Common.{◌≡◌, ℕ, ◌+◌, ◌*◌, ◌≤◌, Bool, false, cond, eqb, ◌≢◌, List, [], ◌∷◌, length, Option, sym, refl, ap, subst, arith}
+use Rattle.std.proofs.Common.{◌≡◌, ℕ, ◌+◌, ◌*◌, ◌≤◌, Bool, false, cond, eqb, ◌≢◌, List, [], ◌∷◌, length, Option, sym, refl, ap, subst, arith, sum_by}
 use Rattle.std.proofs.lemmas.Bool.{cond_both, cond-false}
+use Rattle.std.proofs.lemmas.List.Sums.{sum_by-cons}
 use Rattle.accounts.specs.declared.record.Record.{Record}
 use Rattle.ledger.specs.declared.call.Call.{Call}
 use Rattle.ledger.specs.declared.call.Call.TheVariants as call
@@ -11,7 +12,6 @@ use Rattle.ledger.specs.Records.{record_of}
 use Rattle.ledger.specs.Refusals.{number}
 use Rattle.ledger.specs.States.{State, Outcome, declined}
 use Rattle.ledger.specs.Steps.{opened, lapse, close}
-use Rattle.ledger.specs.Sums.{total}
 use Rattle.journal.specs.Histories as history
 use Rattle.journal.specs.Histories.{Event, History, answer_of, call_of, class_of, disbursed_to, given, percentage_of, shares_of, units_read, used_by}
 use Rattle.ledger.specs.Phases.{fees_in}
@@ -21,7 +21,7 @@ use Rattle.journal.proofs.Ties.{Tied}
 
 -- how many records were billed in a period
 abbrev pub billed_in : ℕ → List Record → ℕ
-billed_in period rs = total (λ r. cond (eqb r.last period) 1 0) rs
+billed_in period rs = sum_by (λ r. cond (eqb r.last period) 1 0) rs
 
 -- an open period's fees are at least a fiftieth of its applied credits, which are at most 10^9 for each record billed
 pub record InBounds (applied fees billed : ℕ) : Type 0 where
@@ -46,8 +46,8 @@ module _ {M : Type 0} (worth : M → ℕ → ℕ → ℕ) where
   pub record Stands (h : History M) (s : State) : Type 0 where
     pub fits : length s.records ≤ s.room
     pub few : s.room ≤ 4096
-    pub whole : total (λ r. r.percentage) s.records ≤ 100000
-    pub readings : s.read ≡ total units_read h
+    pub whole : sum_by (λ r. r.percentage) s.records ≤ 100000
+    pub readings : s.read ≡ sum_by units_read h
     pub within : s.read ≤ 1_000_000_000_000
     pub bounds : Bounds s.phase (billed_in (s.closed + 1) s.records)
     pub ties : (a : ℕ) → Ties h a (record_of a s.records)
@@ -87,11 +87,11 @@ module _ {M : Type 0} (worth : M → ℕ → ℕ → ℕ) where
           fits = i.fits;
           few = i.few;
           whole = i.whole;
-          readings = omega arith;
+          readings = omega (arith, sum_by-cons {X = Event M});
           within = i.within;
           bounds = i.bounds;
           ties = i.ties;
-          law = record { units = omega arith; cents = omega arith; each = (other, i.law.each) };
+          law = record { units = omega (arith, sum_by-cons {X = Event M}); cents = omega (arith, sum_by-cons {X = Event M}); each = (other, i.law.each) };
         };
       }
 
@@ -114,11 +114,11 @@ module _ {M : Type 0} (worth : M → ℕ → ℕ → ℕ) where
           fits = i.fits;
           few = i.few;
           whole = i.whole;
-          readings = omega arith;
+          readings = omega (arith, sum_by-cons {X = Event M});
           within = i.within;
           bounds = i.bounds;
           ties = i.ties;
-          law = record { units = omega (arith, i.law); cents = omega (arith, i.law); each = (tt, i.law.each) };
+          law = record { units = omega (arith, sum_by-cons {X = Event M}, i.law); cents = omega (arith, sum_by-cons {X = Event M}, i.law); each = (tt, i.law.each) };
         };
       }
 
@@ -137,13 +137,13 @@ module _ {M : Type 0} (worth : M → ℕ → ℕ → ℕ) where
           fits = i.fits;
           few = i.few;
           whole = i.whole;
-          readings = omega arith;
+          readings = omega (arith, sum_by-cons {X = Event M});
           within = i.within;
           bounds = tt;
           ties = i.ties;
           law = record {
-            units = omega (arith, i.law);
-            cents = omega (arith, i.law);
+            units = omega (arith, sum_by-cons {X = Event M}, i.law);
+            cents = omega (arith, sum_by-cons {X = Event M}, i.law);
             each = (record { covered = most; rest = omega arith }, i.law.each);
           };
         };

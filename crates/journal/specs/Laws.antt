@@ -1,5 +1,5 @@
 -- The law of any run of a ledger over its history.
-use Rattle.std.specs.Prelude.{◌≡◌, ℕ, ◌+◌, ◌-◌, ◌≤◌, ◌≢◌, List, [], ◌∷◌, map, reverse, Result}
+use Rattle.std.specs.Prelude.{◌≡◌, ℕ, ◌+◌, ◌-◌, ◌≤◌, ◌≢◌, List, [], ◌∷◌, map, reverse, Result, sum_by}
 use Rattle.crediting.specs.Credits.{Credited}
 use Rattle.ledger.specs.declared.call.Call.{Call}
 use Rattle.ledger.specs.declared.call.Done.{Done}
@@ -10,7 +10,6 @@ use Rattle.ledger.specs.Phases.{fees_in}
 use Rattle.ledger.specs.Refusals.{number}
 use Rattle.ledger.specs.States.{State}
 use Rattle.ledger.specs.Steps.{step}
-use Rattle.ledger.specs.Sums.{total}
 use Rattle.journal.specs.Histories.{Event, History, billed, finally_billed, closed, declined, call_of, answer_of, class_of, given, used_by, units_read, units_forfeited, of_bill, of_close}
 
 -- Performing calls one by one, each on what the ones before it left: the state after the last, and the answers.
@@ -55,8 +54,8 @@ module _ {M : Type 0} (worth : M → ℕ → ℕ → ℕ) where
   -- accounts, together. Cents: all applied credits are all net credits, host payments, utility fees and the fees of the
   -- open period, together. Each bill, close and refusal keeps its rule.
   pub record Law (h : History M) (s : State) : Type 0 where
-    pub units : total units_read h ≡ total (of_bill (λ p. p.used)) h + total units_forfeited h + s.bank + total (λ r. r.held) s.records
-    pub cents : total (of_bill (λ p. p.applied)) h ≡ total (of_bill (λ p. p.net)) h + total (of_close (λ x. x.payment)) h + total (of_close (λ x. x.utility)) h + fees_in s.phase
+    pub units : sum_by units_read h ≡ sum_by (of_bill (λ p. p.used)) h + sum_by units_forfeited h + s.bank + sum_by (λ r. r.held) s.records
+    pub cents : sum_by (of_bill (λ p. p.applied)) h ≡ sum_by (of_bill (λ p. p.net)) h + sum_by (of_close (λ x. x.payment)) h + sum_by (of_close (λ x. x.utility)) h + fees_in s.phase
     pub each : EachEvent h
 
   -- the calls and their answers have a history that keeps the law
@@ -66,8 +65,8 @@ module _ {M : Type 0} (worth : M → ℕ → ℕ → ℕ) where
     pub answers_told : map answer_of history ≡ reverse said
     pub law : Law history s
 
-  -- a run from a state at which a ledger was opened: the state that it leaves and its answers are those of performing the
-  -- calls one by one, and they keep the law
+  -- a run from a state at which a ledger was opened: the state that it leaves and its answers are those of performing
+  -- the calls one by one, and they keep the law
   pub record Ran (start : State) (calls : List (Call M)) (said : List (Result Done Refusal)) (end : State) : Type 0 where
     pub performed : end ≡ after worth start calls
     pub answered : said ≡ answers worth start calls

@@ -1,6 +1,7 @@
 // Why a run is declined.
-ghost use Rattle.std.specs.Prelude.{◌≡◌};
+ghost use Rattle.std.specs.Prelude.{◌≡◌, Some};
 ghost use Rattle.journal.specs.declared.refusal.RunRefusal.TheVariants as declined;
+ghost use Rattle.journal.specs.Refusals.{run_reason};
 
 use ledger::call::Refusal;
 use std::alloc::AllocError;
@@ -17,20 +18,22 @@ pub enum RunRefusal {
 impl From<Refusal> for RunRefusal {
     ghost from_gives = { λ why r. r ≡ declined.NotOpened why };
 
-    fn from(why: Refusal) -> RunRefusal {
-        RunRefusal::NotOpened(why)
+    fn from(why: Refusal) -> Self {
+        Self::NotOpened(why)
     }
 }
 
 impl From<AllocError> for RunRefusal {
     ghost from_gives = { λ _ r. r ≡ declined.NoMemory };
 
-    fn from(_: AllocError) -> RunRefusal {
-        RunRefusal::NoMemory
+    fn from(_: AllocError) -> Self {
+        Self::NoMemory
     }
 }
 
 impl fmt::Display for RunRefusal {
+    ghost output = { λ why. Some (run_reason why) };
+
     fn fmt<W: fmt::Write>(&self, f: &mut fmt::Formatter<W>) -> fmt::Result {
         match self {
             RunRefusal::NotOpened(why) => write!(f, "{why}"),

@@ -8,7 +8,7 @@ use Rattle.std.specs.Fn.{Called, ComputesKey, Mut}
 use Rattle.std.specs.List.{AllWithin, IsFirstMatchOrLen}
 use Rattle.statements.specs.Meanings.{Meaning}
 use Rattle.statements.specs.declared.statement.ParseError.{ParseError}
-use Rattle.posting.specs.Orders.{and_then}
+use Rattle.statements.specs.Results.{and_then}
 use Rattle.journal_text.specs.declared.entries.JournalFault.{JournalFault}
 use Rattle.journal_text.specs.declared.entries.JournalFault.TheVariants.{Line as at_line, NoMemory}
 use Rattle.journal_text.specs.Journals.{Text, lines_after, lines_of, some_line, without_feed, one_more, Read, Told}

@@ -5,7 +5,7 @@ use Rattle.statements.specs.Meanings.{Meaning, statement_of}
 use Rattle.statements.specs.declared.statement.ParseError.{ParseError}
 use Rattle.statements.specs.declared.statement.ParseError.TheVariants.{Expected as expected, NoMemory as parse_memory}
 use Rattle.posting.specs.Mistakes.{mistake_text}
-use Rattle.posting.specs.Orders.{and_then}
+use Rattle.statements.specs.Results.{and_then}
 use Rattle.posting.specs.Plans.{told}
 use Rattle.posting.specs.declared.entry.Entry.{Entry}
 use Rattle.journal_text.specs.declared.entries.Journal.{Journal}

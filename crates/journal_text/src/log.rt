@@ -12,6 +12,7 @@ use requests::fault::RequestRefusal;
 use std::alloc::{AllocError, Global};
 
 // The word of a statement that answers.
+// It is a text and no Display, since it is a part of a line that another function writes, which takes any word.
 pub fn word(note: Note) -> &'static str
     ensures { result.now ≡ word_of note }
 {

@@ -1,7 +1,8 @@
 -- What the lines of a request make of the records.
-use Rattle.std.proofs.Common.{◌≡◌, ℕ, zero, suc, ◌+◌, ◌<◌, ◌≤◌, true, false, cond, not, ltb, List, [], ◌∷◌, ◌++◌, map, length, get_or, is_some, Some, None, Option, sym, refl, ap, ◌∙◌, arith}
+use Rattle.std.proofs.Common.{◌≡◌, ℕ, zero, suc, ◌+◌, ◌<◌, ◌≤◌, true, false, cond, not, ltb, List, [], ◌∷◌, ◌++◌, map, length, get_or, is_some, Some, None, Option, sym, refl, ap, ◌∙◌, arith, count_by}
 use Rattle.std.proofs.lemmas.Bool.{and_from, and_parts, lt-ltb, not-false}
 use Rattle.std.proofs.lemmas.List.{length_push, map_push}
+use Rattle.std.proofs.lemmas.List.Sums.{sum_by-cons}
 use Rattle.std.proofs.lemmas.Bool.Decides.{nat_tests}
 use Rattle.std.specs.List.{position_from}
 use Rattle.accounts.proofs.Finding.{found_present, present_push}
@@ -10,7 +11,6 @@ use Rattle.accounts.specs.declared.record.Line.{Line}
 use Rattle.accounts.specs.declared.record.Record.{Record}
 use Rattle.accounts.specs.Ranges.{in_range, line_in_range}
 use Rattle.ledger.specs.Lines.{joins, new_accounts, enter}
-use Rattle.ledger.specs.Sums.{total}
 use Rattle.ledger.proofs.Found.{present_found, accounts_put, put_length, nowhere}
 use Rattle.ledger.proofs.Scanning.{zero_line}
 use Rattle.ledger.specs.Records.{record_of, unallocated, allocated, joining}
@@ -39,6 +39,8 @@ push_new : (rs : List Record) (r : Record) (ls : List Line) → new_accounts (rs
 push_new rs r [] = omega arith
 push_new rs r (l ∷ ls) =
     let ih = push_new rs r ls in
+    let all = sum_by-cons (joins rs) l ls in
+    let more = sum_by-cons (joins (rs ++ r ∷ [])) l ls in
     let p = ap (present l.account) (map_push (λ (x : Record). x.account) rs r) ∙ present_push l.account r.account (accounts rs) in
     grind (arith, nat_tests)
 
@@ -46,10 +48,11 @@ push_new rs r (l ∷ ls) =
 pub enter_fits : (rs : List Record) (l : Line) (ls : List Line) (room : ℕ) (o : Option Record) → record_of l.account rs ≡ o → length rs + new_accounts rs (l ∷ ls) ≤ room → length (enter o rs l) + new_accounts (enter o rs l) ls ≤ room
 enter_fits rs l ls room None e h =
     let p : present l.account (accounts rs) ≡ false = present_found l.account rs ∙ ap is_some e in
-    omega (arith, joins_absent rs l p, length_push rs (joining l), push_new rs (joining l) ls)
+    omega (arith, joins_absent rs l p, sum_by-cons (joins rs) l ls, length_push rs (joining l), push_new rs (joining l) ls)
 enter_fits rs l ls room (Some r) e h =
     let n = put_length (allocated l r) rs in
-    let a = ap (λ xs. total (λ (x : Line). cond (not (present x.account xs)) 1 0) ls) (accounts_put (allocated l r) rs) in
+    let all = sum_by-cons (joins rs) l ls in
+    let a = ap (λ xs. count_by (λ (x : Line). not (present x.account xs)) ls) (accounts_put (allocated l r) rs) in
     omega arith
 
 -- lines of which none is out of range

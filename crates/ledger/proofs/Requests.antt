@@ -1,5 +1,5 @@
 -- Lines of a request that are accepted, or why they are not.
-use Rattle.std.proofs.Common.{◌≡◌, ℕ, ◌+◌, ◌-◌, ◌≤◌, Bool, true, false, cond, not, ◌&&◌, ◌||◌, ltb, ◌≢◌, List, [], ◌∷◌, ◌++◌, map, length, Some, None, Ok, Err, Option, Result, sym, refl, ap, subst, arith}
+use Rattle.std.proofs.Common.{◌≡◌, ℕ, ◌+◌, ◌-◌, ◌≤◌, Bool, true, false, not, ◌&&◌, ◌||◌, ltb, ◌≢◌, List, [], ◌∷◌, ◌++◌, map, length, Some, None, Ok, Err, Option, Result, sym, refl, ap, subst, arith, sum_by, count_by}
 use Rattle.std.proofs.lemmas.List.{length-map}
 use Rattle.std.specs.List.{position_from}
 use Rattle.std.proofs.lemmas.Bool.{cond_both, ltb-false}
@@ -14,7 +14,6 @@ use Rattle.ledger.specs.declared.call.Refusal.TheVariants as why
 use Rattle.ledger.specs.Lines.{enrolled, enter_all, judge_lines, large_percentage, line_accounts, new_accounts, repeated_from, unless_at}
 use Rattle.ledger.specs.Records.{unallocated}
 use Rattle.ledger.specs.Refusals.{number}
-use Rattle.ledger.specs.Sums.{total}
 use Rattle.ledger.proofs.Entering.{none_out, unallocated_accounts}
 use Rattle.ledger.proofs.Replacing.{left_as, left_on}
 
@@ -38,7 +37,7 @@ repeated_distinct i earlier (x ∷ later) e =
 pub record Accepted (room : ℕ) (rs : List Record) (ls : List Line) : Type 0 where
   pub ranged : position_from (λ l. not (line_in_range l)) 0 ls ≡ None
   pub apart : distinct (line_accounts ls) ≡ true
-  pub whole : total (λ l. l.percentage) ls ≤ 100000
+  pub whole : sum_by (λ l. l.percentage) ls ≤ 100000
   pub fits : new_accounts rs ls ≤ room - length rs
 
 -- a refusal with a place, or none
@@ -53,8 +52,8 @@ judged smallest farm room rs ls P bad good =
     (λ _. unless_both P why.LineOutOfRange _ _ (λ i. bad (why.LineOutOfRange i) (omega arith))
     (λ ranged. unless_both P why.AccountRepeated _ _ (λ i. bad (why.AccountRepeated i) (omega arith))
     (λ apart. unless_both P why.LineOfClosedAccount _ _ (λ i. bad (why.LineOfClosedAccount i) (omega arith))
-    (λ _. cond_both (ltb 100000 (total (λ l. l.percentage) ls)) _ _ P (λ _. bad why.PercentagesPass (omega arith))
-    (λ whole. cond_both (not farm && ltb 40000 (total large_percentage ls)) _ _ P (λ _. bad why.LargePercentagesPass (omega arith))
+    (λ _. cond_both (ltb 100000 (sum_by (λ l. l.percentage) ls)) _ _ P (λ _. bad why.PercentagesPass (omega arith))
+    (λ whole. cond_both (not farm && ltb 40000 (sum_by large_percentage ls)) _ _ P (λ _. bad why.LargePercentagesPass (omega arith))
     (λ _. cond_both (ltb (room - length rs) (new_accounts rs ls)) _ _ P (λ _. bad why.BookTooSmall (omega arith))
     (λ fits. good (record {
       ranged = ranged;
@@ -76,7 +75,7 @@ pub record Ready (room : ℕ) (rs : List Record) (ls : List Line) : Type 0 where
 pub ready : (smallest : ℕ) (farm : Bool) (room : ℕ) (rs : List Record) (ls : List Line) (new : ℕ) → length rs ≤ room → Ok new ≡ judge_lines smallest farm room rs ls → Ready room rs ls
 ready smallest farm room rs ls new few e =
     let ok = accepted smallest farm room rs ls new e in
-    let same = ap (λ xs. total (λ (x : Line). cond (not (present x.account xs)) 1 0) ls) (unallocated_accounts rs) in
+    let same = ap (λ xs. count_by (λ (x : Line). not (present x.account xs)) ls) (unallocated_accounts rs) in
     record { ranged = none_out 0 ls ok.ranged; fits = omega (arith, same, ok.fits, length-map rs unallocated) }
 
 -- percentages are taken away, and then the lines entered

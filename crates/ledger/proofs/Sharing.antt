@@ -1,7 +1,8 @@
 -- A loop over the records of a reading.
-use Rattle.std.proofs.Common.{◌≡◌, ℕ, suc, ◌+◌, ◌*◌, ◌<◌, ◌≤◌, Bool, true, false, ◌||◌, ltb, List, ◌∷◌, drop, Some, sym, ap, ◌∙◌, ⊎_elim, subst, add-one, mul-add, arith}
+use Rattle.std.proofs.Common.{◌≡◌, ℕ, suc, ◌+◌, ◌*◌, ◌<◌, ◌≤◌, Bool, true, false, ◌||◌, ltb, List, ◌∷◌, drop, Some, sym, ap, ◌∙◌, ⊎_elim, subst, add-one, mul-add, arith, sum_by}
 use Rattle.std.proofs.lemmas.Bool.{both_ways, cases_Bool, lt-ltb, or_left, or_right, or_parts}
 use Rattle.std.proofs.lemmas.List.Folds.{list_any_at}
+use Rattle.std.proofs.lemmas.List.Sums.{sum_by-cons}
 use Rattle.std.proofs.lemmas.Option.{get_or_from_slice_get, slice_get_within}
 use Rattle.std.proofs.Math.Seq.{drop-cons}
 use Rattle.std.proofs.lemmas.Bool.Decides.{nat_tests}
@@ -11,7 +12,6 @@ use Rattle.accounts.specs.Ranges.{in_range}
 use Rattle.ledger.specs.Records.{gaining}
 use Rattle.ledger.specs.Rules.{share}
 use Rattle.ledger.specs.Steps.{shares, foreign_to_reading}
-use Rattle.ledger.specs.Sums.{total}
 
 -- shares rounded down are within their percentages of the reading
 pub shared_within : (units percentages shared percentage gain : ℕ) → gain ≡ share units percentage → shared * 100000 ≤ units * percentages → (shared + gain) * 100000 ≤ units * (percentages + percentage)
@@ -27,7 +27,7 @@ overfull units r = ltb 1000000000000 (r.held + share units r.percentage)
 
 -- the sums so far and those of the records left are those of all; no record so far would be overfull
 pub record LeftToShare (units percentages shared : ℕ) (rs left : List Record) : Type 0 where
-  pub percents : percentages + total (λ r. r.percentage) left ≡ total (λ r. r.percentage) rs
+  pub percents : percentages + sum_by (λ r. r.percentage) left ≡ sum_by (λ r. r.percentage) rs
   pub gains : shared + shares units left ≡ shares units rs
   pub full : list_any (overfull units) left ≡ list_any (overfull units) rs
 
@@ -41,6 +41,8 @@ module _ (units percentages shared : ℕ) (rs : List Record) (i : ℕ) where
   pub share_more : (r : Record) → slice_get rs i ≡ Some r → LeftAt → overfull units r ≡ false → LeftToShare units (percentages + r.percentage) (shared + share units r.percentage) rs (drop (i + 1) rs)
   share_more r e h o =
       let k = at_record r e h in
+      let percents = sum_by-cons (λ (x : Record). x.percentage) r (drop (i + 1) rs) in
+      let gains = sum_by-cons (λ (x : Record). share units x.percentage) r (drop (i + 1) rs) in
       record {
         percents = omega (arith, k.percents);
         gains = omega (arith, k.gains);
@@ -48,7 +50,7 @@ module _ (units percentages shared : ℕ) (rs : List Record) (i : ℕ) where
       }
 
   pub past_whole : (r : Record) → slice_get rs i ≡ Some r → LeftAt → 100000 < percentages + r.percentage → foreign_to_reading units rs ≡ true
-  past_whole r e h o = or_left _ (list_any (overfull units) rs) (lt-ltb 100000 (total (λ (x : Record). x.percentage) rs) (omega (arith, (at_record r e h).percents)))
+  past_whole r e h o = or_left _ (list_any (overfull units) rs) (lt-ltb 100000 (sum_by (λ (x : Record). x.percentage) rs) (omega (arith, (at_record r e h).percents, sum_by-cons (λ (x : Record). x.percentage) r (drop (i + 1) rs))))
 
   pub past_holding : (r : Record) → slice_get rs i ≡ Some r → LeftAt → overfull units r ≡ true → foreign_to_reading units rs ≡ true
   past_holding r e h o = or_right _ _ (sym (at_record r e h).full ∙ ap (λ b. b || list_any (overfull units) (drop (i + 1) rs)) o)

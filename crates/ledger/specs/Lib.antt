@@ -1,6 +1,5 @@
 pub mod Rules
 pub mod Refusals
-pub mod Sums
 pub mod Records
 pub mod Lines
 pub mod Phases

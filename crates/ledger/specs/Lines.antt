@@ -1,5 +1,5 @@
 -- When the lines of an allocation request are enrolled, and what they make of the records.
-use Rattle.std.specs.Prelude.{ℕ, ◌+◌, ◌-◌, Bool, false, cond, not, ◌&&◌, ◌||◌, List, [], ◌∷◌, ◌++◌, map, length, Some, None, Ok, Err, Option, Result, nat_lt}
+use Rattle.std.specs.Prelude.{ℕ, ◌+◌, ◌-◌, Bool, false, cond, not, ◌&&◌, ◌||◌, List, [], ◌∷◌, ◌++◌, map, length, Some, None, Ok, Err, Option, Result, nat_lt, sum_by, count_by}
 use Rattle.std.specs.List.{position_from}
 use Rattle.accounts.specs.declared.record.Line.{Line}
 use Rattle.accounts.specs.declared.record.Record.{Record}
@@ -18,7 +18,6 @@ use Rattle.ledger.specs.declared.call.Refusal.TheVariants.{
   BookTooSmall,
 }
 use Rattle.ledger.specs.Records.{record_of, put, is_closed, unallocated, allocated, joining}
-use Rattle.ledger.specs.Sums.{total}
 
 abbrev pub line_accounts : List Line → List ℕ
 line_accounts ls = map (λ l. l.account) ls
@@ -52,7 +51,7 @@ joins rs l = cond (is_new rs l) 1 0
 
 -- how many lines are of new accounts
 abbrev pub new_accounts : List Record → List Line → ℕ
-new_accounts rs ls = total (joins rs) ls
+new_accounts rs ls = count_by (is_new rs) ls
 
 -- a refusal where a place is told, else what comes after
 abbrev pub unless_at : (ℕ → Refusal) → Option ℕ → Result ℕ Refusal → Result ℕ Refusal
@@ -66,8 +65,8 @@ judge_lines smallest farm room rs ls =
     (unless_at LineOutOfRange (position_from (λ l. not (line_in_range l)) 0 ls)
     (unless_at AccountRepeated (repeated_from 0 [] (line_accounts ls))
     (unless_at LineOfClosedAccount (position_from (names_closed rs) 0 ls)
-    (cond (nat_lt 100000 (total (λ l. l.percentage) ls)) (Err PercentagesPass)
-    (cond (not farm && nat_lt 40000 (total large_percentage ls)) (Err LargePercentagesPass)
+    (cond (nat_lt 100000 (sum_by (λ l. l.percentage) ls)) (Err PercentagesPass)
+    (cond (not farm && nat_lt 40000 (sum_by large_percentage ls)) (Err LargePercentagesPass)
     (cond (nat_lt (room - length rs) (new_accounts rs ls)) (Err BookTooSmall)
     (Ok (new_accounts rs ls))))))))
 

@@ -1,5 +1,5 @@
 -- What each call does to a ledger and its book, and what it answers.
-use Rattle.std.specs.Prelude.{ℕ, ◌+◌, ◌-◌, Bool, cond, ◌||◌, List, map, Some, None, Ok, Err, vec_items, Option, Result, ◌==◌, nat_le, nat_lt}
+use Rattle.std.specs.Prelude.{ℕ, ◌+◌, ◌-◌, Bool, cond, ◌||◌, List, map, Some, None, Ok, Err, vec_items, Option, Result, ◌==◌, nat_le, nat_lt, sum_by}
 use Rattle.std.specs.List.{list_any}
 use Rattle.accounts.specs.declared.record.Line.{Line}
 use Rattle.accounts.specs.declared.record.Record.{Record}
@@ -16,7 +16,6 @@ use Rattle.ledger.specs.Lines.{judge_lines, enrolled}
 use Rattle.ledger.specs.Records.{record_of, put, is_closed, holding, gaining, billed, ended}
 use Rattle.ledger.specs.Rules.{share, net_credit, subscription_fee, counted, utility_fee}
 use Rattle.ledger.specs.States.{State, Outcome, declined, performed}
-use Rattle.ledger.specs.Sums.{total}
 
 -- Open: between periods, all numbers 0
 abbrev pub opened : ℕ → Bool → ℕ → List Record → State
@@ -57,12 +56,12 @@ enrol s ls = enrol_judged s ls (judge_lines s.smallest s.farm s.room s.records l
 
 -- Reading: each satellite gains its share, and the host's bank the rest
 abbrev pub shares : ℕ → List Record → ℕ
-shares units rs = total (λ r. share units r.percentage) rs
+shares units rs = sum_by (λ r. share units r.percentage) rs
 
 -- the book is another ledger's: its percentages pass the whole, or an account would pass the units that one may hold
 abbrev pub foreign_to_reading : ℕ → List Record → Bool
 foreign_to_reading units rs =
-    nat_lt 100000 (total (λ r. r.percentage) rs)
+    nat_lt 100000 (sum_by (λ r. r.percentage) rs)
     || list_any (λ r. nat_lt 1000000000000 (r.held + share units r.percentage)) rs
 
 abbrev pub reading : State → ℕ → Outcome

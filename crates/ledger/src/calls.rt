@@ -79,6 +79,7 @@ impl Ledger {
                 Phase::InPeriod { .. },
                 Call::Enrol(_) | Call::Reading(_) | Call::Disburse { .. } | Call::Lapse,
             ) => { Err(Refusal::InPeriod) }
+            // a bill and a final bill begin alike: each pair's rule is whole in its place
             (
                 Phase::InPeriod { applied, fees },
                 Call::Bill {

@@ -1,14 +1,14 @@
-// The limits that the ledger keeps, besides those of a bill and of an account's units.
+// The limits that the ledger keeps, besides those of a bill, of an account and of a book.
+use accounts::limits;
 
 // all percentages together, in thousandths of a percent
-pub(crate) const WHOLE: u64 = 100_000;
+pub(crate) const WHOLE: u64 = limits::WHOLE as u64;
 
 // those of large satellites together, without the farm mark
 pub(crate) const MOST_LARGE: u64 = 40_000;
 
+// the ledger's own rule: it knows of requests, and nothing of the files that they come in
 pub(crate) const MOST_LINES: usize = 1_024;
-
-pub(crate) const MOST_PERIODS: u32 = 1_200;
 
 pub(crate) const MOST_READING: u64 = 10_000_000_000;
 

@@ -1,9 +1,8 @@
 // When the lines of a request are enrolled.
-ghost use Rattle.std.specs.Prelude.{◌≡◌, ◌≤◌, ◌==◌, not, [], length};
+ghost use Rattle.std.specs.Prelude.{◌≡◌, ◌≤◌, ◌==◌, not, [], length, sum_by};
 ghost use Rattle.std.specs.List.{list_any, position_from};
 ghost use Rattle.accounts.specs.Ranges.{line_in_range};
 ghost use Rattle.ledger.specs.Lines.{line_accounts, repeated_from, large_percentage, is_new, names_closed, new_accounts};
-ghost use Rattle.ledger.specs.Sums.{total};
 
 use super::entries::entry_at;
 use accounts::book::AccountBook;
@@ -52,8 +51,8 @@ pub(crate) struct Sums {
 
 pub(crate) fn percentages(lines: &[Line]) -> Sums
     requires { length lines.now ≤ 1024 }
-    ensures all { result.all ≡ total (λ l. l.percentage) lines.now }
-    ensures large { result.large ≡ total large_percentage lines.now }
+    ensures all { result.all ≡ sum_by (λ l. l.percentage) lines.now }
+    ensures large { result.large ≡ sum_by large_percentage lines.now }
 {
     Sums {
         all: lines.iter().map(|line| u64::from(line.percentage)).sum(),

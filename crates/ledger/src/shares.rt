@@ -11,9 +11,10 @@ use super::call::{Done, Refusal};
 use super::entries::{entry_at, replace_each};
 use super::entry::Entry;
 use super::ledger::Ledger;
-use super::limits::{MOST_PERIODS, MOST_READING, WHOLE};
+use super::limits::{MOST_READING, WHOLE};
 use super::phase::Phase;
 use accounts::book::AccountBook;
+use accounts::limits::MOST_PERIODS;
 use accounts::record::Record;
 use crediting::credit::MOST_UNITS;
 
@@ -32,8 +33,8 @@ impl Reading {
         self.units * u64::from(entry.holder.percentage) / WHOLE
     }
 
-    // All shares together, unless the book is another ledger's: percentages pass the whole, or an account would pass the
-    // units that it may hold.
+    // All shares together, if the book is not another ledger's.
+    // It is, if percentages pass the whole or an account would pass the units that it may hold.
     fn judge_shares<B: AccountBook>(self, book: &B) -> Result<u64, Refusal>
         ensures judged { B.sound book.now → Shared self.units (B.contents book.now).records result }
         ensures bound { IfOk result (λ shared. shared ≤ self.units) }

@@ -6,8 +6,9 @@ use super::told::{Fact, amount, declined, declined_at, ended, posted, settled};
 use accounts::record::{Kind, Line};
 use cases::worked_postings;
 
-// At 0.4 cents, 9 kilowatt-hours are worth 3 cents. A cent takes 3 of them, and 6 are left. Had the 2 cents left over been
-// turned back into kilowatt-hours, 5 would be left, and one of the 9 would have vanished. Used and forfeited are 9.
+// At 0.4 cents, 9 kilowatt-hours are worth 3 cents. A cent takes 3 of them, and 6 are left.
+// Had the 2 cents left over been turned back into kilowatt-hours, 5 would be left, and one of the 9 would be gone.
+// Used and forfeited are 9.
 fn units_stay() -> [Step; 7] {
     [
         expects("all to account 1", one(line(1, 100_000)), amount(1)),
@@ -48,8 +49,8 @@ fn cents_stay() -> [Step; 5] {
     ]
 }
 
-// One and a half percent of 33 cents is nothing, and of 34 a cent. Three bills of 33 are 99 cents and a fee of one cent;
-// three of 34 are 102 cents and a fee of two.
+// One and a half percent of 33 cents is nothing, and of 34 a cent.
+// Three bills of 33 are 99 cents and a fee of one cent; three of 34 are 102 cents and a fee of two.
 fn fee_of_the_sum() -> [Step; 11] {
     [
         expects(

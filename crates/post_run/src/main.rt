@@ -15,8 +15,10 @@ use crediting::volumetric::Volumetric;
 use image_book::book::ImageBook;
 use journal::refusal::RunRefusal;
 use journal::run::run;
+use journal_text::log::word;
 use ledger::call::{Call, Done, Refusal};
 use ledger::ledger::Ledger;
+use posting::note::Note;
 use std::alloc::{AllocError, Global};
 use table_book::TableBook;
 
@@ -60,8 +62,8 @@ fn bill<M>(method: M, account: u64, cents: u64) -> Call<M> {
     }
 }
 
-// The first month: an account is billed twice over. The calls are put one by one, since an array of them is not known to
-// fit in memory for every type of method.
+// The first month: an account is billed twice over.
+// The calls are put one by one, since an array of them is not known to fit in memory for every type of method.
 fn first_month<M: Copy>(
     calls: &mut Vec<Call<M>>,
     method: M,
@@ -96,26 +98,13 @@ fn second_month<M: Copy>(calls: &mut Vec<Call<M>>, method: M) -> Result<(), Allo
     Ok(())
 }
 
-// The word of the statement that makes a call.
-fn word<M>(call: &Call<M>) -> &'static str {
-    match call {
-        Call::Enrol(_) => "enrol",
-        Call::Reading(_) => "reading",
-        Call::Bill { .. } => "bill",
-        Call::FinalBill { .. } => "final",
-        Call::Disburse { .. } => "disburse",
-        Call::Lapse => "lapse",
-        Call::Close => "close",
-    }
-}
-
 fn print_answers<M>(
     rt: &HostRuntime,
     calls: &[Call<M>],
     said: &[Result<Done, Refusal>],
 ) -> anyhow::Result<()> {
     for (call, answer) in calls.iter().zip(said) {
-        let text = answer_line(word(call), *answer, rt.alloc())?;
+        let text = answer_line(word(Note::from(call)), *answer, rt.alloc())?;
         println!(rt; "{text}")?;
     }
     Ok(())
@@ -145,6 +134,7 @@ fn post<M: CreditMethod + Copy, B: AccountBook>(
             let text = refusal_line("open", &why, heap)?;
             println!(rt; "{text}")?;
         }
+        // in words of its own: the text that it prints stays
         Err(RunRefusal::NoMemory) => return Err(anyhow!("no memory for the answers")),
     }
     let text = ledger_line(ledger.phase(), ledger.closed_periods(), ledger.bank(), heap)?;

@@ -3,6 +3,8 @@ use Rattle.std.specs.Prelude.{ℕ, List, vec_items}
 use Rattle.accounts.specs.declared.record.Line.{Line}
 use Rattle.ledger.specs.declared.call.Call.{Call}
 use Rattle.ledger.specs.declared.call.Call.TheVariants as call
+use Rattle.posting.specs.declared.note.Note.{Note}
+use Rattle.posting.specs.declared.note.Note.TheVariants as note
 
 pub data Deed : Type 0 where
   an_enrolment : List Line → Deed
@@ -22,3 +24,13 @@ deed worth (call.FinalBill method account cents) = a_final_bill (worth method) a
 deed worth (call.Disburse account units) = a_disbursement account units
 deed worth call.Lapse = a_lapse
 deed worth call.Close = a_close
+
+-- what the statement of a call tells: the call's answer
+abbrev pub note_of : {M : Type 0} → Call M → Note
+note_of (call.Enrol _) = note.Enrol
+note_of (call.Reading _) = note.Reading
+note_of (call.Bill _ _ _) = note.Bill
+note_of (call.FinalBill _ _ _) = note.Final
+note_of (call.Disburse _ _) = note.Disburse
+note_of call.Lapse = note.Lapse
+note_of call.Close = note.Close

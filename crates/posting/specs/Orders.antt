@@ -2,6 +2,7 @@
 use Rattle.std.specs.Prelude.{ℕ, List, [], ◌∷◌, Ok, Err, codes, Result}
 use Rattle.statements.specs.Meanings.{Meaning, meaning}
 use Rattle.statements.specs.Meanings as said
+use Rattle.statements.specs.Results.{and_then}
 use Rattle.posting.specs.declared.entry.Entry.{Entry}
 use Rattle.posting.specs.declared.mistake.Mistake.{Mistake}
 use Rattle.posting.specs.declared.order.Head.{Head}
@@ -74,10 +75,6 @@ abbrev pub placed : Entry → ℕ × Part
 placed e = (e.line, part (meaning e.statement))
 
 -- the first fault, or the head
-abbrev pub and_then : {A B E : Type 0} → Result A E → (A → Result B E) → Result B E
-and_then (Ok a) f = f a
-and_then (Err e) f = Err e
-
 abbrev pub ordered : ℕ → List (ℕ × Part) → Stage → Result Head (Mistake Wanted)
 ordered end [] stage = headed end stage
 ordered end (p ∷ ps) stage = and_then (next stage p.0 p.1) (ordered end ps)

@@ -1,6 +1,6 @@
 // A plan grows by one statement after another.
 ghost use Rattle.std.specs.Prelude.{◌≡◌, map, IfOk, OnOk};
-ghost use Rattle.posting.specs.Deeds.{deed};
+ghost use Rattle.posting.specs.Deeds.{deed, note_of};
 ghost use Rattle.posting.specs.Plans.{seen, begun, noted, called, with_rates, more_line, read_file, enrolled, step, planned, told};
 
 use super::entry::Entry;
@@ -11,12 +11,11 @@ use accounts::record::Line;
 use crediting::method::CreditMethod;
 use crediting::volumetric::Volumetric;
 use ledger::call::Call;
+use requests::limits::MAX_LINES;
 use requests::reader::read;
 use statements::statement::Statement;
 use std::alloc::{AllocError, Global};
 use std::mem;
-
-const MOST_LINES: usize = 1_024;
 
 impl<M: Rated + Drop> Plan<M> {
     // No call, no line in hand, rate 1 for every class.
@@ -38,11 +37,11 @@ impl<M: Rated + Drop> Plan<M> {
         Ok(())
     }
 
-    fn call(&mut self, note: Note, call: Call<M>) -> Result<(), AllocError>
-        ensures { OnOk result (seen M.CreditMethod.worth self.new ≡ called (seen M.CreditMethod.worth self.old) (deed M.CreditMethod.worth call) note) }
+    fn call(&mut self, call: Call<M>) -> Result<(), AllocError>
+        ensures { OnOk result (seen M.CreditMethod.worth self.new ≡ called (seen M.CreditMethod.worth self.old) (deed M.CreditMethod.worth call) (note_of call)) }
     {
+        self.notes.push(Note::from(&call))?;
         self.calls.push(call)?;
-        self.notes.push(note)?;
         Ok(())
     }
 
@@ -65,7 +64,7 @@ impl<M: Rated + Drop> Plan<M> {
         ensures { OnOk result (seen M.CreditMethod.worth self.new ≡ read_file (seen M.CreditMethod.worth self.old) file.now) }
     {
         // the reader writes to a table that is lent to it
-        let mut table = [Line::default(); MOST_LINES];
+        let mut table = [Line::default(); MAX_LINES];
         let read = read(file, &mut table);
         if let Ok(lines) = read {
             self.lines = Vec::from_slice(heap, &table[..lines])?;
@@ -77,51 +76,40 @@ impl<M: Rated + Drop> Plan<M> {
         ensures { OnOk result (seen M.CreditMethod.worth self.new ≡ enrolled (seen M.CreditMethod.worth self.old)) }
     {
         let lines = mem::replace(&mut self.lines, Vec::new(heap));
-        self.call(Note::Enrol, Call::Enrol(lines))
+        self.call(Call::Enrol(lines))
     }
 
     // One statement more. A statement that opens the journal adds nothing.
     pub fn add(&mut self, entry: &Entry, heap: Global) -> Result<(), AllocError>
         ensures { OnOk result (seen M.CreditMethod.worth self.new ≡ step M.Rated.worths (seen M.CreditMethod.worth self.old) (told entry.now)) }
     {
-        match &entry.statement {
+        match entry.statement {
             Statement::Method(_) | Statement::Book(_) | Statement::Open(_) => Ok(()),
-            Statement::Rates(rates) => self.set_rates(rates.as_slice()),
-            Statement::Line(line) => self.add_line(*line),
+            Statement::Rates(ref rates) => self.set_rates(rates.as_slice()),
+            Statement::Line(line) => self.add_line(line),
             Statement::Request(_) => self.read_request(entry.file.as_slice(), heap),
             Statement::Enrol => self.enrol(heap),
-            Statement::Reading(units) => self.call(Note::Reading, Call::Reading(*units)),
+            Statement::Reading(units) => self.call(Call::Reading(units)),
+            // the next two make a variant each with named fields, which is no value that a helper could take
             Statement::Bill { account, cents } => {
                 let method = M::rated(&self.rates);
-                self.call(
-                    Note::Bill,
-                    Call::Bill {
-                        method,
-                        account: *account,
-                        cents: *cents,
-                    },
-                )
+                self.call(Call::Bill {
+                    method,
+                    account,
+                    cents,
+                })
             }
             Statement::Final { account, cents } => {
                 let method = M::rated(&self.rates);
-                self.call(
-                    Note::Final,
-                    Call::FinalBill {
-                        method,
-                        account: *account,
-                        cents: *cents,
-                    },
-                )
+                self.call(Call::FinalBill {
+                    method,
+                    account,
+                    cents,
+                })
             }
-            Statement::Disburse { account, units } => self.call(
-                Note::Disburse,
-                Call::Disburse {
-                    account: *account,
-                    units: *units,
-                },
-            ),
-            Statement::Lapse => self.call(Note::Lapse, Call::Lapse),
-            Statement::Close => self.call(Note::Close, Call::Close),
+            Statement::Disburse { account, units } => self.call(Call::Disburse { account, units }),
+            Statement::Lapse => self.call(Call::Lapse),
+            Statement::Close => self.call(Call::Close),
         }
     }
 }

@@ -4,7 +4,8 @@ use accounts::record::Line;
 use crediting::volumetric::Volumetric;
 use ledger::call::Call;
 
-// What the statements so far come to. Clauses read it by the definition `seen`: a model's value cannot hold a method's worth.
+// What the statements so far come to.
+// Clauses read it by the definition `seen`: a model's value cannot hold a method's worth.
 #[derive(Drop)]
 pub struct Plan<M> {
     // the rates of the bills that follow

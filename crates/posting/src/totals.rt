@@ -1,13 +1,12 @@
 // Sums over calls and their answers.
-ghost use Rattle.std.specs.Prelude.{◌≡◌};
-ghost use Rattle.ledger.specs.Sums.{total};
+ghost use Rattle.std.specs.Prelude.{◌≡◌, sum_by};
 ghost use Rattle.posting.specs.Amounts.{of_bill, of_close, of_lapse, of_call, amount, sum_of};
 
 use accounts::book::AccountBook;
 use ledger::call::{Call, Done, Posting, Refusal, Settlement};
 
-// What is summed: units read, used and forfeited, and cents applied, net, paid to the host and kept by the utility. It is one
-// value, since seven closures would each match the answers anew.
+// What is summed: units read, used and forfeited, and cents applied, net, paid to the host and kept by the utility.
+// It is one value, since seven closures would each match the answers anew.
 #[derive(Clone, Copy, PartialEq, Eq, Debug)]
 pub enum Amount {
     Read,
@@ -78,21 +77,30 @@ impl Amount {
     }
 }
 
-// The sum of an amount over calls with their answers, in order.
-pub fn sum<M>(amount: Amount, calls: &[Call<M>], answers: &[Result<Done, Refusal>]) -> u128
-    ensures { result ≡ sum_of amount calls.now answers.now }
-{
-    calls
-        .iter()
-        .zip(answers)
-        .map(|(call, answer)| u128::from(amount.of(call, answer)))
-        .sum()
+// Calls and their answers, in order.
+#[derive(Drop)]
+pub struct Performed<'a, M> {
+    pub calls: &'a [Call<M>],
+    pub answers: &'a [Result<Done, Refusal>],
+}
+
+impl<M> Performed<'_, M> {
+    // What the calls come to together.
+    pub fn sum(&self, amount: Amount) -> u128
+        ensures { result ≡ sum_of amount self.now.calls.now self.now.answers.now }
+    {
+        self.calls
+            .iter()
+            .zip(self.answers)
+            .map(|(call, answer)| u128::from(amount.of(call, answer)))
+            .sum()
+    }
 }
 
 // The units held in all records; a book gives them by their places.
 #[tactic(auto, using(crate::proofs::Summing::held_more))]
 pub fn held<B: AccountBook>(book: &B) -> u128
-    ensures { B.sound book.now → result ≡ total (λ x. x.held) (B.contents book.now).records }
+    ensures { B.sound book.now → result ≡ sum_by (λ x. x.held) (B.contents book.now).records }
 {
     let mut units = 0u128;
     for place in 0..book.count() {

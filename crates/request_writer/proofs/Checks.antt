@@ -7,16 +7,15 @@ use Rattle.requests.specs.Form.{then}
 use Rattle.request_writer.specs.declared.entry.Entry.{Entry}
 use Rattle.request_writer.specs.declared.refusal.WriteRefusal.{WriteRefusal}
 use Rattle.request_writer.specs.declared.refusal.WriteRefusal.TheVariants as refusal
-use Rattle.request_writer.specs.Packing.{Item, item, holds, text, little_bytes, pairs, file_of, items_from, packing, sized}
-use Rattle.request_writer.proofs.Packs.{length_little, length_behind_most}
+use Rattle.request_writer.specs.Packing.{Item, item, holds, text, pairs, file_of, items_from, packing, sized}
+use Rattle.request_writer.proofs.Packs.{length_behind_most}
 use Rattle.request_writer.proofs.Texts.{length_text}
 
 pub length_pairs : (at : ℕ) (es : List Item) → length (pairs at es) ≡ 6 * length es
 unfolding pairs
 length_pairs at [] = refl
 length_pairs at (e ∷ es) =
-    let n = length (text e) in
-    rw (length-append, length-append (little_bytes 2 n), length_little 4 at, length_little 2 n) (omega (arith, length_pairs (at + n) es))
+    omega (arith, length_pairs (at + length (text e)) es)
 
 -- the bytes of a file of some lines
 abbrev pub size : List Item → ℕ
@@ -25,7 +24,7 @@ size es = 2 + 6 * length es + length (flat_map text es)
 pub length_file : (es : List Item) → length (file_of es) ≡ size es
 unfolding file_of
 length_file es =
-    rw (length-append, length-append (pairs (2 + 6 * length es) es), length_little, length_pairs) (omega arith)
+    simp (length-append, length_pairs) (omega arith)
 
 -- the bytes of a file of some entries
 abbrev pub bytes : List Entry → ℕ

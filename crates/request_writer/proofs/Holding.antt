@@ -1,55 +1,25 @@
 -- What any file holds can be packed.
-use Rattle.std.proofs.Common.{◌≡◌, ℕ, suc, ◌+◌, ◌-◌, ◌*◌, ◌^◌, ◌<◌, ◌≤◌, true, List, [], ◌∷◌, map, length, get_or, Some, Ok, Err, Result, sym, refl, ap, ◌∙◌, subst, inl, inr, add-zero, zero-add, arith}
+use Rattle.std.proofs.Common.{◌≡◌, ℕ, suc, ◌+◌, ◌*◌, ◌<◌, ◌≤◌, true, List, [], ◌∷◌, map, length, get_or, Some, Ok, refl, ap, ◌∙◌, subst, inl, inr, add-zero, zero-add, arith}
 use Rattle.std.specs.List.{flat_map}
 use Rattle.std.specs.Option.{option_map}
 use Rattle.std.proofs.lemmas.List.{length-append, length-map, length-take}
-use Rattle.std.proofs.lemmas.Bool.{le-leb, lt-ltb, le-ltb, cases_lt}
+use Rattle.std.proofs.lemmas.Bool.{lt-ltb}
 use Rattle.std.proofs.lemmas.Bool.Decides.{nat_tests}
 use Rattle.accounts.specs.declared.record.Line.{Line}
 use Rattle.requests.specs.declared.pairs.Pair.{Pair}
-use Rattle.requests.specs.declared.fault.FieldFault.{FieldFault}
-use Rattle.requests.specs.Form.{then, number_at, space_at, letter, remark_space, line_of}
-use Rattle.accounts.specs.Marks.{size_of, kind_of}
-use Rattle.requests.specs.Meaning.{pair_at, end_of, fits, pairs_from, part, of_line, line_at, lines_from, meaning, remark_start, remark_of, remark_at}
+use Rattle.requests.specs.Form.{line_of}
+use Rattle.requests.specs.Meaning.{pair_at, end_of, fits, pairs_from, part, line_at, lines_from, meaning, remark_of, remark_at}
 use Rattle.requests.proofs.Numerals.{number_lt}
-use Rattle.requests.proofs.Judged.{no_fault, lines_split}
+use Rattle.requests.proofs.Judged.{lines_split}
 use Rattle.requests.proofs.Readings.{Meant, meant}
 use Rattle.request_writer.specs.declared.refusal.WriteRefusal.{WriteRefusal}
-use Rattle.request_writer.specs.Packing.{Item, text, holds, items_from, file_of, packing, Refuses, Unheld, ReadsBack}
+use Rattle.request_writer.specs.Packing.{Item, behind, text, holds, items_from, file_of, packing, Refuses, Unheld, ReadsBack}
 use Rattle.request_writer.proofs.Texts.{length_text}
 use Rattle.request_writer.proofs.Checks.{length_file}
 
 -- a number field that was read has no more digits than its width
-number_small : (bs : List ℕ) (at w n : ℕ) → number_at bs at w ≡ Ok n → n < 10 ^ w
-number_small bs at w n h = grind (arith, nat_tests, number_lt)
-
--- what follows from a part that is in order
-thus : {A B E : Type 0} (r : Result A E) (f : A → Result B E) (b : B) (P : Type 0) → ((a : A) → r ≡ Ok a → f a ≡ Ok b → P) → then r f ≡ Ok b → P
-thus (Ok a) f b P g h = g a refl h
-thus (Err e) f b P g h = absurd (no_fault b e h)
-
-held : (l : Line) → l.account < 10 ^ 11 → l.percentage < 10 ^ 6 → l.savings < 10 ^ 4 → l.class < 10 ^ 2 → holds l ≡ true
-held l a p s c = grind (arith, nat_tests)
-
-ok_value : {A E : Type 0} (a b : A) → ◌≡◌ {A = Result A E} (Ok a) (Ok b) → a ≡ b
-ok_value a b h = cc
-
--- so has a line
 line_small : (bs : List ℕ) (l : Line) → line_of bs ≡ Ok l → holds l ≡ true
-line_small bs l =
-    let P = holds l ≡ true in
-    thus (number_at bs 0 11) _ l P (λ account a. thus (space_at bs 11) _ l P (λ _ _.
-    thus (number_at bs 12 6) _ l P (λ percentage p. thus (space_at bs 18) _ l P (λ _ _.
-    thus (number_at bs 19 4) _ l P (λ savings s. thus (space_at bs 23) _ l P (λ _ _.
-    thus (number_at bs 24 2) _ l P (λ class c. thus (space_at bs 26) _ l P (λ _ _.
-    thus (letter (size_of (get_or bs 27 0))) _ l P (λ size _. thus (space_at bs 28) _ l P (λ _ _.
-    thus (letter (kind_of (get_or bs 29 0))) _ l P (λ kind _. thus (remark_space bs) _ l P (λ _ _ is.
-    let v : Line = record { account = account; percentage = percentage; savings = savings; class = class; size = size; kind = kind } in
-    subst (λ x. holds x ≡ true) (ok_value v l is) (held v (number_small bs 0 11 account a) (number_small bs 12 6 percentage p) (number_small bs 19 4 savings s) (number_small bs 24 2 class c))))))))))))))
-
-line_fits : (place : ℕ) (r : Result Line FieldFault) (l : Line) → of_line place r ≡ Ok l → r ≡ Ok l
-line_fits place (Ok x) l h = ap Ok (ok_value x l h)
-line_fits place (Err e) l h = absurd (no_fault l _ h)
+line_small bs l h = grind (arith, nat_tests, number_lt)
 
 -- what a pair that fits tells
 record Pairs (limit start : ℕ) (p : Pair) : Type 0 where
@@ -67,27 +37,19 @@ pair_fits limit start p h = record {
 }
 
 -- a remark is what a line has behind byte 30
-remark_room : (file : List ℕ) (p : Pair) (r : List ℕ) → (remark_of file p).0 ≡ r → (30 < p.length → length r + 31 ≤ p.length) × (p.length ≤ 30 → length r ≡ 0)
-remark_room file p r h =
-    let k = end_of p - remark_start p in
-    let most : length r ≤ k = rw (← h, length-take) (omega arith) in (
-      (λ long. let e = rw (lt-ltb 30 p.length long) at most in omega arith),
-      (λ short. let e = rw (le-ltb 30 p.length short) at most in omega arith),
-    )
+remark_room : (file : List ℕ) (p : Pair) (r : List ℕ) → (remark_of file p).0 ≡ r → 30 ≤ p.length → 30 + length (behind r) ≤ p.length
+remark_room file p [] h long = omega arith
+remark_room file p (b ∷ r) h long =
+    let most = simp length-take at (ap length h) in
+    grind (arith, nat_tests)
 
-text_room : (p : Pair) (l : Line) (r : List ℕ) → 30 ≤ p.length → (30 < p.length → length r + 31 ≤ p.length) × (p.length ≤ 30 → length r ≡ 0) → length (text (l, r)) ≤ p.length
-text_room p l [] long room = omega (arith, length_text (l, []))
-text_room p l (b ∷ r) long room =
-    let e = length_text (l, b ∷ r) in
-    elim (cases_lt 30 p.length) [ inl more ↦ omega (arith, room.0 more) | inr less ↦ absurd (omega (arith, room.1 less)) ]
-
-remark_short : (p : Pair) (r : List ℕ) → p.length ≤ 110 → (30 < p.length → length r + 31 ≤ p.length) × (p.length ≤ 30 → length r ≡ 0) → length r ≤ 79
-remark_short p r short room =
-    elim (cases_lt 30 p.length) [ inl more ↦ omega (arith, room.0 more) | inr less ↦ omega (arith, room.1 less) ]
+remark_short : (r : List ℕ) → length (behind r) ≤ 80 → length r ≤ 79
+remark_short [] h = omega arith
+remark_short (b ∷ r) h = omega arith
 
 items_join : (p : ℕ) (e : Item) (es : List Item) → holds e.0 ≡ true → length e.1 ≤ 79 → items_from (p + 1) es ≡ Ok tt → items_from p (e ∷ es) ≡ Ok tt
 unfolding items_from
-items_join p e es h r rest = rw (h, le-leb (length e.1) 79 r) rest
+items_join p e es h r rest = grind (arith, nat_tests)
 
 pairs_split : (file : List ℕ) (start k n : ℕ) → pairs_from file start k (suc n) ≡ Ok tt → (fits (length file) start (pair_at file k) ≡ true) × (pairs_from file (end_of (pair_at file k)) (k + 1) n ≡ Ok tt)
 unfolding pairs_from
@@ -95,7 +57,7 @@ pairs_split file start k n h = (grind (arith, nat_tests), grind (arith, nat_test
 
 line_of_ok : (file : List ℕ) (k : ℕ) (l : Line) → line_at file k ≡ Ok l → line_of (part file (pair_at file k)) ≡ Ok l
 unfolding line_at
-line_of_ok file k l h = line_fits k _ l h
+line_of_ok file k l h = grind (arith, nat_tests)
 
 Remarks : List ℕ → ℕ → List Item → Type 0
 Remarks file k es = (i : ℕ) (d : Item) → i < length es → (remark_of file (pair_at file (k + i))).0 ≡ (get_or es i d).1
@@ -112,11 +74,11 @@ holding file start k p (e ∷ es) pairs lines remarks low =
     let same : line.0 ≡ e.0 = let i = line.4 in cc in
     let others : line.1 ≡ map (λ x. x.0) es = let i = line.4 in cc in
     let wide = line_small (part file pair) e.0 (line_of_ok file k e.0 (line.2 ∙ ap Ok same)) in
-    let room = remark_room file pair e.1 (rw add-zero at (remarks 0 e (omega arith))) in
+    let room = remark_room file pair e.1 (rw add-zero at (remarks 0 e (omega arith))) f.long in
     let rest = holding file (end_of pair) (k + 1) (p + 1) es head.1 (line.3 ∙ ap Ok others) (λ i d l. let shift : k + suc i ≡ k + 1 + i = omega arith in rw shift at (remarks (suc i) d (omega arith))) f.inside in
     let total : length (flat_map text (e ∷ es)) ≡ length (text e) + length (flat_map text es) = length-append (text e) (flat_map text es) in (
-      items_join p e es wide (remark_short pair e.1 f.short room) rest.0,
-      omega (arith, total, rest.1, text_room pair e.0 e.1 f.long room, f.after),
+      items_join p e es wide (remark_short e.1 (omega (arith, f.short))) rest.0,
+      omega (arith, total, rest.1, length_text e, f.after),
     )
 
 remark_told : (file r : List ℕ) (place : ℕ) (ls : List Line) → meaning file ≡ Ok ls → place < length ls → option_map (λ found. found.0) (remark_at file place) ≡ Some r → (remark_of file (pair_at file place)).0 ≡ r
@@ -138,5 +100,5 @@ packs_all file es back =
 
 -- so what is refused stands in no file
 pub refused_unheld : (es : List Item) (e : WriteRefusal) → Refuses es e → Unheld es e
-refused_unheld es e (inl h) other file back = no_fault (file_of es) e (sym h ∙ packs_all file es back)
+refused_unheld es e (inl h) other file back = cc (packs_all file es back)
 refused_unheld es e (inr h) other file back = other h.0

@@ -1,25 +1,13 @@
 -- Packing lines one by one.
-use Rattle.std.proofs.Common.{◌≡◌, ℕ, zero, suc, ◌+◌, ◌/◌, ◌%◌, ◌<◌, ◌≤◌, List, [], ◌∷◌, ◌++◌, map, length, get_or, drop, refl, arith}
+use Rattle.std.proofs.Common.{◌≡◌, ℕ, ◌+◌, ◌<◌, ◌≤◌, List, [], ◌∷◌, ◌++◌, map, length, get_or, drop, arith}
+use Rattle.std.specs.Int.{to_le_bytes, w16, w32}
 use Rattle.std.specs.List.{flat_map}
-use Rattle.std.proofs.lemmas.List.{append_assoc, length-append, length_push, drop_more}
+use Rattle.std.proofs.lemmas.List.{append_assoc, length-append, drop_more}
 use Rattle.accounts.specs.declared.record.Size.TheVariants.{Small}
 use Rattle.accounts.specs.declared.record.Kind.TheVariants.{Member}
 use Rattle.request_writer.specs.declared.entry.Entry.{Entry}
-use Rattle.request_writer.specs.Packing.{item, behind, text, little_bytes, pairs}
+use Rattle.request_writer.specs.Packing.{item, behind, text, pairs}
 use Rattle.request_writer.proofs.Texts.{length_text, three}
-
-pub two_bytes : (n : ℕ) → little_bytes 2 n ≡ n % 256 ∷ n / 256 % 256 ∷ []
-unfolding little_bytes
-two_bytes n = let e : n / 1 ≡ n = omega arith in rw e
-
-pub four_bytes : (n : ℕ) → little_bytes 4 n ≡ n % 256 ∷ n / 256 % 256 ∷ n / 65536 % 256 ∷ n / 16777216 % 256 ∷ []
-unfolding little_bytes
-four_bytes n = let e : n / 1 ≡ n = omega arith in rw e
-
-pub length_little : (w n : ℕ) → length (little_bytes w n) ≡ w
-unfolding little_bytes
-length_little zero n = refl
-length_little (suc w) n = rw length_push (omega (arith, length_little w n))
 
 pub length_behind : (r : List ℕ) → length r ≤ length (behind r)
 length_behind [] = omega arith
@@ -34,9 +22,9 @@ module _ (es : List Entry) (i : ℕ) (d : Entry) (l : i < length es) where
   pub texts_more : (bs : List ℕ) → (bs ++ text (item (get_or es i d))) ++ flat_map text (map item (drop (i + 1) es)) ≡ bs ++ flat_map text (map item (drop i es))
   texts_more bs = rw (drop_more es i d l, append_assoc)
 
-  pub pairs_more : (bs : List ℕ) (at : ℕ) → ((bs ++ little_bytes 4 at) ++ little_bytes 2 (length (text (item (get_or es i d))))) ++ pairs (at + length (text (item (get_or es i d)))) (map item (drop (i + 1) es)) ≡ bs ++ pairs at (map item (drop i es))
+  pub pairs_more : (bs : List ℕ) (at : ℕ) → ((bs ++ to_le_bytes w32 at) ++ to_le_bytes w16 (length (text (item (get_or es i d))))) ++ pairs (at + length (text (item (get_or es i d)))) (map item (drop (i + 1) es)) ≡ bs ++ pairs at (map item (drop i es))
   unfolding pairs
-  pairs_more bs at = rw (drop_more es i d l) (three bs (little_bytes 4 at) (little_bytes 2 (length (text (item (get_or es i d))))) _)
+  pairs_more bs at = rw (drop_more es i d l) (three bs (to_le_bytes w32 at) (to_le_bytes w16 (length (text (item (get_or es i d))))) _)
 
   pub left_more : length (flat_map text (map item (drop i es))) ≡ length (text (item (get_or es i d))) + length (flat_map text (map item (drop (i + 1) es)))
   left_more = rw (drop_more es i d l, length-append)

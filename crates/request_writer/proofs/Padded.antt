@@ -3,7 +3,6 @@ use Rattle.std.proofs.Common.{◌≡◌, ℕ, zero, suc, ◌+◌, ◌-◌, ◌/�
 use Rattle.std.specs.Fmt.{padded_integral, format_spec, char_count}
 use Rattle.std.proofs.lemmas.Fmt.{decimal_by_steps}
 use Rattle.std.proofs.lemmas.List.{append_assoc, append-nil, length_push, replicate_more}
-use Rattle.std.proofs.lemmas.Bool.Decides.{nat_tests}
 use Rattle.accounts.specs.declared.record.Line.{Line}
 use Rattle.accounts.specs.declared.record.Size.{Size}
 use Rattle.accounts.specs.declared.record.Size.TheVariants.{Small, Large}
@@ -11,6 +10,7 @@ use Rattle.accounts.specs.declared.record.Kind.{Kind}
 use Rattle.accounts.specs.declared.record.Kind.TheVariants.{Member, Anchor}
 use Rattle.accounts.specs.Marks.{size_letter, size_text, kind_letter, kind_text}
 use Rattle.request_writer.specs.Packing.{digits, form, holds}
+use Rattle.request_writer.proofs.Fields.{widths}
 
 -- what `{n:0w}` writes
 abbrev pub padded : ℕ → ℕ → List ℕ
@@ -61,9 +61,6 @@ letters Large Anchor = refl
 pub form_padded : (l : Line) → holds l ≡ true → padded 11 l.account ++ (codes " " ++ (padded 6 l.percentage ++ (codes " " ++ (padded 4 l.savings ++ (codes " " ++ (padded 2 l.class ++ (codes " " ++ (size_text l.size ++ (codes " " ++ kind_text l.kind))))))))) ≡ form l
 unfolding form
 form_padded l h =
-    let account : l.account < 10 ^ 11 = grind (arith, nat_tests) in
-    let percentage : l.percentage < 10 ^ 6 = grind (arith, nat_tests) in
-    let savings : l.savings < 10 ^ 4 = grind (arith, nat_tests) in
-    let class : l.class < 10 ^ 2 = grind (arith, nat_tests) in
-    rw (padded_digits 11 l.account (omega arith) account (omega arith), padded_digits 6 l.percentage (omega arith) percentage (omega arith), padded_digits 4 l.savings (omega arith) savings (omega arith), padded_digits 2 l.class (omega arith) class (omega arith), letters l.size l.kind)
+    let w = widths l h in
+    rw (padded_digits 11 l.account (omega arith) w.account (omega arith), padded_digits 6 l.percentage (omega arith) w.percentage (omega arith), padded_digits 4 l.savings (omega arith) w.savings (omega arith), padded_digits 2 l.class (omega arith) w.class (omega arith), letters l.size l.kind)
     (simp append_assoc)

@@ -10,8 +10,8 @@ length_digits zero n = refl
 length_digits (suc w) n = rw length_push (omega (arith, length_digits w (n / 10)))
 
 pub length_form : (l : Line) → length (form l) ≡ 30
-unfolding form
-length_form l = simp (length-append, length_digits)
+unfolding form digits
+length_form l = refl
 
 pub length_text : (e : Item) → length (text e) ≡ 30 + length (behind e.1)
 unfolding text

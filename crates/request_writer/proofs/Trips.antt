@@ -1,23 +1,20 @@
 -- Reading what was packed gives it back.
-use Rattle.std.proofs.Common.{◌≡◌, ℕ, zero, suc, ◌+◌, ◌-◌, ◌*◌, ◌<◌, ◌≤◌, true, ◌||◌, eqb, ltb, List, [], ◌∷◌, ◌++◌, map, length, get_or, drop, Some, IsOk, Ok, Err, Result, sym, refl, ap, ◌∙◌, add-zero, zero-add, arith}
+use Rattle.std.proofs.Common.{◌≡◌, ℕ, zero, suc, ◌+◌, ◌-◌, ◌*◌, ◌<◌, ◌≤◌, true, List, [], ◌∷◌, ◌++◌, map, length, get_or, drop, Some, IsOk, Ok, Err, Result, sym, refl, ap, ◌∙◌, add-zero, zero-add, arith}
 use Rattle.std.specs.List.{flat_map}
 use Rattle.std.specs.Option.{option_map}
-use Rattle.std.proofs.lemmas.List.{append_assoc, append-nil, length-append, length_push, length-map, drop-drop, drop_at, take_at}
-use Rattle.std.proofs.lemmas.Bool.{lt-ltb, or_parts, ltb-false, eqb-false}
+use Rattle.std.proofs.lemmas.List.{append-nil, length-append, length-map, drop-drop, drop_at, take_at}
+use Rattle.std.proofs.lemmas.Nat.{from_le_bytes-to_le_bytes_2}
+use Rattle.std.proofs.lemmas.Bool.{lt-ltb}
 use Rattle.std.proofs.lemmas.Bool.Decides.{nat_tests}
 use Rattle.accounts.specs.declared.record.Line.{Line}
-use Rattle.requests.specs.Meaning.{little, pair_at, fits, pairs_from, line_at, lines_from, count, meaning, remark_of, remark_at}
-use Rattle.requests.proofs.Judged.{then_ok}
-use Rattle.requests.proofs.Readings.{cond_ok}
+use Rattle.requests.specs.Meaning.{pair_at, fits, pairs_from, line_at, lines_from, count, meaning, remark_of, remark_at}
 use Rattle.request_writer.specs.declared.refusal.WriteRefusal.{WriteRefusal}
-use Rattle.request_writer.specs.declared.refusal.WriteRefusal.TheVariants as refusal
 use Rattle.request_writer.specs.declared.entry.Entry.{Entry}
-use Rattle.request_writer.specs.Packing.{Item, item, form, text, holds, little_bytes, pairs, file_of, items_from, packing, sized, ReadsBack}
-use Rattle.request_writer.proofs.Texts.{length_form, length_text}
-use Rattle.request_writer.proofs.Packs.{length_little}
+use Rattle.request_writer.specs.Packing.{Item, item, form, digits, text, holds, pairs, file_of, items_from, packing, sized, ReadsBack}
+use Rattle.request_writer.proofs.Texts.{length_text}
 use Rattle.request_writer.proofs.Checks.{size, length_file, length_pairs, text_most}
 use Rattle.request_writer.proofs.Fields.{text_back}
-use Rattle.request_writer.proofs.Places.{Stands, stands, little_back}
+use Rattle.request_writer.proofs.Places.{Stands, stands}
 
 -- a line that a file can hold
 record Fit (e : Item) : Type 0 where
@@ -59,10 +56,8 @@ lines_back file k at p (e ∷ es) s h =
 
 -- what stands behind byte 30 of a line
 tail_back : (l : Line) (b : ℕ) (r more : List ℕ) → drop 31 (text (l, b ∷ r) ++ more) ≡ (b ∷ r) ++ more
-unfolding text
-tail_back l b r more =
-    let long : length (form l ++ 32 ∷ []) ≡ 31 = rw (length_push, length_form) in
-    ap (drop 31) (append_assoc (form l) (32 ∷ b ∷ r) more ∙ sym (append_assoc (form l) (32 ∷ []) ((b ∷ r) ++ more))) ∙ drop_at (form l ++ 32 ∷ []) ((b ∷ r) ++ more) 31 long
+unfolding text form digits
+tail_back l b r more = refl
 
 -- the remark of a line that stands in the file
 remark_here : (file more : List ℕ) (at : ℕ) (l : Line) (r : List ℕ) → drop at file ≡ text (l, r) ++ more → (remark_of file (record { offset = at; length = length (text (l, r)) })).0 ≡ r
@@ -95,34 +90,28 @@ pub record Packed (es : List Item) (file : List ℕ) : Type 0 where
 pub packed : (es : List Item) (file : List ℕ) → packing es ≡ Ok file → Packed es file
 unfolding packing
 packed es file h =
-    let n = length es in
-    let counts = cond_ok (eqb n 0 || ltb 1024 n) refusal.LineCount _ file h in
-    let tests = or_parts (eqb n 0) (ltb 1024 n) counts.0 in
-    let items = then_ok (items_from 0 es) _ file counts.1 in
-    let sizes = cond_ok (ltb 65535 (length (file_of es))) refusal.FileLength (Ok (file_of es)) file items.2 in
-    let short = ltb-false 65535 (length (file_of es)) sizes.0 in
-    record { some = eqb-false n 0 tests.0; few = ltb-false 1024 n tests.1; items = items.1; short = omega (arith, length_file es, short); is = let e = sizes.1 in cc }
-
-count_bytes : (es : List Item) → length es ≤ 1024 → little (file_of es) 0 2 ≡ length es
-unfolding file_of
-count_bytes es few = little_back 2 (length es) 0 [] (pairs (2 + 6 * length es) es ++ flat_map text es) (omega arith) refl
+    let long = length_file es in
+    record {
+      some = λ none. grind (arith, nat_tests);
+      few = grind (arith, nat_tests);
+      items = grind (arith, nat_tests);
+      short = grind (arith, nat_tests);
+      is = grind (arith, nat_tests);
+    }
 
 count_back : (es : List Item) → (length es ≡ 0 → ⊥) → length es ≤ 1024 → size es ≤ 65535 → count (file_of es) ≡ Ok (length es)
-unfolding count
+unfolding count file_of
 count_back es some few short =
-    let counts = count_bytes es few in
+    let counts = from_le_bytes-to_le_bytes_2 (length es) (omega arith) in
     let long = length_file es in
     grind (arith, nat_tests)
 
 all_stand : (es : List Item) → size es ≤ 65535 → Stands (file_of es) 0 (2 + 6 * length es) es
 unfolding file_of
 all_stand es short =
-    let n = length es in
-    let head = little_bytes 2 n in
-    let ps = pairs (2 + 6 * n) es in
-    let heads : length (head ++ ps) ≡ 2 + 6 * n = rw (length-append, length_little, length_pairs) in
-    let behind-pairs : drop (2 + 6 * n) (file_of es) ≡ flat_map text es ++ [] = ap (drop (2 + 6 * n)) (sym (append_assoc head ps (flat_map text es))) ∙ drop_at (head ++ ps) (flat_map text es) (2 + 6 * n) heads ∙ sym (append-nil (flat_map text es)) in
-    stands (file_of es) head (flat_map text es) [] 0 (2 + 6 * n) es refl (rw length_little) behind-pairs (omega arith)
+    let at = 2 + 6 * length es in
+    let past : drop at (file_of es) ≡ flat_map text es ++ [] = sym (drop-drop (6 * length es) 2 (file_of es)) ∙ drop_at (pairs at es) (flat_map text es) (6 * length es) (length_pairs at es) ∙ sym (append-nil (flat_map text es)) in
+    stands (file_of es) (flat_map text es) [] 0 at es refl past (omega arith)
 
 remark_shown : (file r : List ℕ) (place : ℕ) (lines : List Line) → meaning file ≡ Ok lines → place < length lines → (remark_of file (pair_at file place)).0 ≡ r → option_map (λ found. found.0) (remark_at file place) ≡ Some r
 remark_shown file r place lines means l h = rw (means, lt-ltb place (length lines) l, h)
@@ -145,11 +134,8 @@ reads_back es file h =
 
 -- lines that can be packed make the file
 pub packs : (es : List Item) → IsOk (packing es) → packing es ≡ Ok (file_of es)
-packs es h = by (packing es) refl h
-  where
-    by : (r : Result (List ℕ) WriteRefusal) → packing es ≡ r → IsOk r → packing es ≡ Ok (file_of es)
-    by (Ok file) is h = is ∙ ap Ok (packed es file is).is
-    by (Err e) is h = cc
+unfolding packing
+packs es h = grind (arith, nat_tests)
 
 -- the numbers of each line fit
 pub numbers_at : (p : ℕ) (es : List Entry) → items_from p (map item es) ≡ Ok tt → (k : ℕ) (d : Entry) → k < length es → holds (get_or es k d).line ≡ true
@@ -159,4 +145,4 @@ numbers_at p (e ∷ es) h (suc k) d l = numbers_at (p + 1) es (items_split p (it
 
 pub refused_by_size : (r : Result (List ℕ) WriteRefusal) (e : WriteRefusal) → Err e ≡ sized r → r ≡ Err e
 refused_by_size (Ok file) e h = cc
-refused_by_size (Err f) e h = let same : f ≡ e = cc in ap Err same
+refused_by_size (Err f) e h = cc

@@ -1,5 +1,6 @@
 -- The file that lines with their remarks are packed into, and what no file can hold.
-use Rattle.std.specs.Prelude.{◌≡◌, ℕ, zero, suc, ◌+◌, ◌*◌, ◌/◌, ◌%◌, ◌^◌, ◌<◌, Bool, true, cond, ◌&&◌, ◌||◌, ◌⊎◌, List, [], ◌∷◌, ◌++◌, map, length, is_ok, Some, Ok, Err, Result, ◌==◌, ◌≢◌, nat_le, nat_lt, slice_index_or}
+use Rattle.std.specs.Prelude.{◌≡◌, ℕ, zero, suc, ◌+◌, ◌*◌, ◌/◌, ◌%◌, ◌<◌, Bool, true, cond, ◌&&◌, ◌||◌, ◌⊎◌, List, [], ◌∷◌, ◌++◌, map, length, is_ok, Some, Ok, Err, Result, ◌==◌, ◌≢◌, nat_le, nat_lt, slice_index_or}
+use Rattle.std.specs.Int.{to_le_bytes, w16, w32}
 use Rattle.std.specs.List.{flat_map}
 use Rattle.std.specs.Option.{option_map}
 use Rattle.accounts.specs.declared.record.Line.{Line}
@@ -45,19 +46,14 @@ text e = form e.0 ++ behind e.1
 abbrev pub holds : Line → Bool
 holds l = nat_lt l.account 100000000000 && (nat_lt l.percentage 1000000 && (nat_lt l.savings 10000 && nat_lt l.class 100))
 
--- a number of w bytes, the lowest first: byte k counts 256 ^ k
-unfoldable pub little_bytes : ℕ → ℕ → List ℕ
-little_bytes zero n = []
-little_bytes (suc w) n = little_bytes w n ++ (n / 256 ^ w % 256) ∷ []
-
--- the pairs of lines that stand one right after the other, from an offset on
+-- the pairs of lines that stand one right after the other, from an offset on: its four bytes and a length's two
 unfoldable pub pairs : ℕ → List Item → List ℕ
 pairs at [] = []
-pairs at (e ∷ es) = little_bytes 4 at ++ (little_bytes 2 (length (text e)) ++ pairs (at + length (text e)) es)
+pairs at (e ∷ es) = to_le_bytes w32 at ++ (to_le_bytes w16 (length (text e)) ++ pairs (at + length (text e)) es)
 
 -- The file: the line count, the pairs, and right behind them the lines.
 unfoldable pub file_of : List Item → List ℕ
-file_of es = little_bytes 2 (length es) ++ (pairs (2 + 6 * length es) es ++ flat_map text es)
+file_of es = to_le_bytes w16 (length es) ++ (pairs (2 + 6 * length es) es ++ flat_map text es)
 
 -- the first of some lines, told by its place, that has a number too wide for its field or a remark of over 79 bytes
 unfoldable pub items_from : ℕ → List Item → Result (Unit {0}) WriteRefusal

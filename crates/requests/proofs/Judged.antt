@@ -1,5 +1,5 @@
 -- Judging the pairs and the lines of a file one by one.
-use Rattle.std.proofs.Common.{◌≡◌, ℕ, zero, suc, ◌+◌, ◌-◌, ◌<◌, ◌≤◌, true, cond, List, [], ◌∷◌, ◌++◌, length, get_or, take, drop, set, IsOk, Ok, Err, Result, refl, ap, ◌∙◌, inl, inr, add-zero, zero-add, arith}
+use Rattle.std.proofs.Common.{◌≡◌, ℕ, zero, suc, ◌+◌, ◌-◌, ◌<◌, ◌≤◌, true, cond, List, [], ◌∷◌, ◌++◌, length, get_or, take, drop, set, IsOk, Ok, Err, Result, refl, ap, inl, inr, add-zero, zero-add, arith}
 use Rattle.requests.specs.declared.fault.FieldFault.{FieldFault}
 use Rattle.std.proofs.lemmas.List.{set_at, length-take-le, append_assoc, append-nil, take_more, drop_more, take_all, drop_all}
 use Rattle.std.proofs.lemmas.Bool.{cases_order}
@@ -8,9 +8,8 @@ use Rattle.accounts.specs.declared.record.Line.{Line}
 use Rattle.accounts.specs.declared.record.Size.TheVariants.{Small}
 use Rattle.accounts.specs.declared.record.Kind.TheVariants.{Member}
 use Rattle.requests.specs.declared.pairs.Pair.{Pair}
-use Rattle.requests.specs.declared.fault.LineFault.{LineFault}
 use Rattle.requests.specs.Form.{then, line_of}
-use Rattle.requests.specs.Meaning.{pair_at, end_of, fits, pairs_from, part, of_line, line_at, lines_from, checked, written}
+use Rattle.requests.specs.Meaning.{pair_at, end_of, fits, pairs_from, of_line, line_at, lines_from, checked, written}
 use Rattle.requests.specs.Parts.{Placed}
 
 pub pairs_step : (file : List ℕ) (start place n : ℕ) → place < n → pairs_from file start place (n - place) ≡ cond (fits (length file) start (pair_at file place)) (pairs_from file (end_of (pair_at file place)) (place + 1) (n - (place + 1))) (Err (record { place = place }))
@@ -51,19 +50,13 @@ pub line_is : (file : List ℕ) (place : ℕ) (p : Pair) → p ≡ pair_at file 
 unfolding line_at
 line_is file place p is r h =
     let long : end_of p - p.offset ≡ p.length = omega arith in
-    ap (of_line place) (h ∙ ap (λ k. line_of (take k (drop p.offset file))) long ∙ ap (λ q. line_of (part file q)) is)
-
--- what stands behind a line makes no fault of it
-checked_then : (r : Result Line LineFault) (rest : Result (List Line) LineFault) → checked (then r (λ line. then rest (λ lines. Ok (line ∷ lines)))) ≡ then r (λ _. checked rest)
-checked_then (Ok line) (Ok lines) = refl
-checked_then (Ok line) (Err fault) = refl
-checked_then (Err fault) rest = refl
+    cc
 
 pub lines_step : (file : List ℕ) (place n : ℕ) → place < n → checked (lines_from file place (n - place)) ≡ then (line_at file place) (λ _. checked (lines_from file (place + 1) (n - (place + 1))))
 unfolding lines_from
 lines_step file place n l =
     let left : n - place ≡ suc (n - (place + 1)) = omega arith in
-    rw left (checked_then (line_at file place) (lines_from file (place + 1) (n - (place + 1))))
+    rw left (grind arith)
 
 pub lines_all : (file : List ℕ) (place n : ℕ) → n ≤ place → checked (lines_from file place (n - place)) ≡ Ok tt
 unfolding lines_from
@@ -71,28 +64,28 @@ lines_all file place n l = let left : n - place ≡ 0 = omega arith in rw left
 
 pub then_ok : {A B E : Type 0} (r : Result A E) (f : A → Result B E) (b : B) → then r f ≡ Ok b → (a : A) × (r ≡ Ok a) × (f a ≡ Ok b)
 then_ok (Ok a) f b h = (a, refl, h)
-then_ok (Err e) f b h = absurd (no_fault b e h)
+then_ok (Err e) f b h = cc
 
 -- the first line of several in form, and the others
-pub lines_split : (file : List ℕ) (a n : ℕ) (ls : List Line) → lines_from file a (suc n) ≡ Ok ls → (l : Line) × (rest : List Line) × (line_at file a ≡ Ok l) × (lines_from file (a + 1) n ≡ Ok rest) × (ls ≡ l ∷ rest)
+pub lines_split : (file : List ℕ) (a n : ℕ) (l : Line) (ls : List Line) → lines_from file a (suc n) ≡ Ok (l ∷ ls) → (line_at file a ≡ Ok l) × (lines_from file (a + 1) n ≡ Ok ls)
 unfolding lines_from
-lines_split file a n ls h =
-    let first = then_ok (line_at file a) _ ls h in
-    let others = then_ok (lines_from file (a + 1) n) _ ls first.2 in
-    (first.0, others.0, first.1, others.1, cc)
+lines_split file a n l ls h = (grind arith, grind arith)
 
 pub length_lines : (file : List ℕ) (a n : ℕ) (ls : List Line) → lines_from file a n ≡ Ok ls → length ls ≡ n
 unfolding lines_from
-length_lines file a zero ls h = let e : ls ≡ [] = cc in rw e
-length_lines file a (suc n) ls h = let s = lines_split file a n ls h in rw s.4 (ap suc (length_lines file (a + 1) n s.1 s.3))
+length_lines file a zero [] h = refl
+length_lines file a zero (l ∷ ls) h = cc
+length_lines file a (suc n) [] h = grind arith
+length_lines file a (suc n) (l ∷ ls) h = ap suc (length_lines file (a + 1) n ls (lines_split file a n l ls h).1)
 
-pub lines_at : (file : List ℕ) (a n i : ℕ) (d : Line) (ls : List Line) → lines_from file a n ≡ Ok ls → i < n → line_at file (a + i) ≡ Ok (get_or ls i d)
-lines_at file a zero i d ls h l = absurd (omega arith)
-lines_at file a (suc n) zero d ls h l = let s = lines_split file a n ls h in rw (s.4, add-zero) s.2
-lines_at file a (suc n) (suc i) d ls h l =
-    let s = lines_split file a n ls h in
+pub lines_at : (file : List ℕ) (a n i : ℕ) (d : Line) (ls : List Line) → lines_from file a n ≡ Ok ls → i < length ls → line_at file (a + i) ≡ Ok (get_or ls i d)
+unfolding lines_from
+lines_at file a n i d [] h l = absurd (omega arith)
+lines_at file a zero i d (x ∷ ls) h l = cc
+lines_at file a (suc n) zero d (x ∷ ls) h l = rw add-zero (lines_split file a n x ls h).0
+lines_at file a (suc n) (suc i) d (x ∷ ls) h l =
     let e : a + suc i ≡ a + 1 + i = omega arith in
-    rw (s.4, e) (lines_at file (a + 1) n i d s.1 s.3 (omega arith))
+    rw e (lines_at file (a + 1) n i d ls (lines_split file a n x ls h).1 (omega arith))
 
 -- some line
 blank : Line
@@ -113,7 +106,7 @@ module _ (file : List ℕ) (n : ℕ) (formed : checked (lines_from file 0 n) ≡
   -- what stands at a place of a file whose lines are in form
   all_at : (place : ℕ) (line : Line) → place < n → line_at file place ≡ Ok (get_or all place line)
   unfolding all
-  all_at place line l = rw zero-add at (lines_at file 0 n place line all (ok_values (lines_from file 0 n) formed) l)
+  all_at place line l = rw zero-add at (lines_at file 0 n place line all (ok_values (lines_from file 0 n) formed) (omega (arith, all_length)))
 
   pub line_formed : (place : ℕ) → place < n → IsOk (line_at file place)
   line_formed place l = rw (all_at place blank l)

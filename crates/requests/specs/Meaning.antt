@@ -1,5 +1,6 @@
 -- What a request file means: its lines, or the first fault.
-use Rattle.std.specs.Prelude.{ℕ, zero, suc, ◌+◌, ◌-◌, ◌*◌, ◌^◌, Bool, cond, ◌&&◌, ◌||◌, List, [], ◌∷◌, ◌++◌, length, take, drop, Some, None, Ok, Err, Option, Result, ◌==◌, nat_le, nat_lt, slice_index}
+use Rattle.std.specs.Prelude.{ℕ, zero, suc, ◌+◌, ◌-◌, ◌*◌, Bool, cond, ◌&&◌, ◌||◌, List, [], ◌∷◌, ◌++◌, length, take, drop, Some, None, Ok, Err, Option, Result, ◌==◌, nat_le, nat_lt}
+use Rattle.std.specs.Int.{from_le_bytes, w16, w32}
 use Rattle.accounts.specs.declared.record.Line.{Line}
 use Rattle.requests.specs.declared.fault.FieldFault.{FieldFault}
 use Rattle.requests.specs.declared.fault.LineFault.{LineFault}
@@ -9,14 +10,11 @@ use Rattle.requests.specs.declared.fault.RequestRefusal.TheVariants as refusal
 use Rattle.requests.specs.declared.pairs.Pair.{Pair}
 use Rattle.requests.specs.Form.{then, line_of}
 
--- The number of w bytes from `at` on, the lowest first: byte k counts 256 ^ k.
-unfoldable pub little : List ℕ → ℕ → ℕ → ℕ
-little bs at zero = 0
-little bs at (suc w) = little bs at w + slice_index bs (at + w) * 256 ^ w
-
--- After the line count of two bytes stand the pairs: an offset of four bytes and a length of two.
+-- After the line count of two bytes stand the pairs: an offset of four bytes and a length of two, the lowest byte first.
 unfoldable pub pair_at : List ℕ → ℕ → Pair
-pair_at file place = let at = 2 + 6 * place in record { offset = little file at 4; length = little file (at + 4) 2 }
+pair_at file place =
+    let at = 2 + 6 * place in
+    record { offset = from_le_bytes w32 (drop at file); length = from_le_bytes w16 (drop (at + 4) file) }
 
 -- the first byte past a line
 abbrev pub end_of : Pair → ℕ
@@ -56,7 +54,7 @@ lines_from file place (suc n) =
 -- A file has 2 to 65,535 bytes. Its line count, of two bytes, is 1 to 1,024, and as many pairs follow.
 unfoldable pub count : List ℕ → Result ℕ RequestRefusal
 count file =
-    let n = little file 0 2 in
+    let n = from_le_bytes w16 file in
     cond (nat_lt (length file) 2 || nat_lt 65535 (length file)) (Err refusal.FileLength)
     (cond (n == 0 || (nat_lt 1024 n || nat_lt (length file) (2 + 6 * n))) (Err refusal.LineCount) (Ok n))
 

@@ -31,6 +31,7 @@ impl<'a> PairedFile<'a> {
     pub fn check(&self) -> Result<(), LineFault>
         ensures { result ≡ checked (lines_from self.now.file.now 0 self.now.lines) }
     {
+        // the `?` of each line tells its place
         for place in 0..self.lines {
             self.line(place)?;
         }

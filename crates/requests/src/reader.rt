@@ -28,6 +28,7 @@ fn judge<'a>(file: &'a [u8], places: usize) -> Result<PairedFile<'a>, RequestRef
 
 // Writes the file's lines to the first places of the table and answers how many there are.
 // The other places stay; a declined call writes nothing.
+// Nothing here allocates, so the caller lends the table and is answered a count.
 pub fn read(file: &[u8], table: &mut [Line]) -> Result<usize, RequestRefusal>
     ensures answer { result ≡ counted (reading file.now (length table.old)) }
     ensures table { table.new ≡ written (reading file.now (length table.old)) table.old }
@@ -38,6 +39,7 @@ pub fn read(file: &[u8], table: &mut [Line]) -> Result<usize, RequestRefusal>
 }
 
 // The remark of the line at a place, or nothing where the file is not in order or has no such line.
+#[tactic(auto, using(crate::proofs::Readings::reading_all))]
 pub fn remark<'a>(file: &'a [u8], place: usize) -> Option<Remark<'a>>
     ensures { option_map (λ m. (m.text.now, m.offset)) result ≡ remark_at file.now place }
 {

@@ -9,6 +9,7 @@ use std::test::Fail;
 const FILE: &[u8] =
     b"\x03\x00\x14\x00\x00\x00\x1e\x00\x34\x00\x00\x00\x29\x00\x5d\x00\x00\x00\x1f\x0020010000001 010000 1000 02 S M??00000000007 100000 9800 16 L X north roof99999999999 999999 9999 99 S X !";
 
+// not the default line: a default line written to another place would be seen
 const BLANK: Line = Line {
     account: 0,
     percentage: 0,

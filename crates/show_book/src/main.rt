@@ -55,6 +55,7 @@ fn print_records<B: AccountBook>(rt: &HostRuntime, title: &str, book: &B) -> io:
     let count = book.count();
     let capacity = book.capacity();
     println!(rt; "{title}: {count} of {capacity}")?;
+    // by place: a book is read by place, and the place is printed
     for place in 0..count {
         if let Some(record) = book.get(place) {
             let Record {

@@ -18,8 +18,7 @@ unfolding words_from
 joins v [] bs h = ap (λ x. closed x (words bs)) (sym (append-nil v))
 joins v (b ∷ w) bs h =
     let p = and_parts (not (is_space b)) (no_space w) h in
-    let ih = joins (v ++ b ∷ []) w bs p.1 in
-    cond-false (is_space b) (closed v (words_from [] (w ++ 32 ∷ bs))) (words_from (v ++ b ∷ []) (w ++ 32 ∷ bs)) (not-true (is_space b) p.0) ∙ simp append_assoc at ih
+    grind (arith, p, joins (v ++ b ∷ []) w bs p.1, append_assoc)
 
 -- and then the line's end
 ends : (v w : List ℕ) → no_space w ≡ true → words_from v w ≡ closed (v ++ w) []
@@ -27,8 +26,7 @@ unfolding words_from
 ends v [] h = ap (λ x. closed x []) (sym (append-nil v))
 ends v (b ∷ w) h =
     let p = and_parts (not (is_space b)) (no_space w) h in
-    let ih = ends (v ++ b ∷ []) w p.1 in
-    cond-false (is_space b) (closed v (words_from [] w)) (words_from (v ++ b ∷ []) w) (not-true (is_space b) p.0) ∙ simp append_assoc at ih
+    grind (arith, p, ends (v ++ b ∷ []) w p.1, append_assoc)
 
 -- words with a space between two of them
 abbrev pub joined : List (List ℕ) → List ℕ
@@ -45,10 +43,10 @@ unfolding words_from
 words_joined [] h = refl
 words_joined (w ∷ []) h =
     let p = and_parts (ltb 0 (length w)) (no_space w) h.0 in
-    ends [] w p.1 ∙ closed_some w [] (ltb-true 0 (length w) p.0)
+    grind (arith, p, ends [] w p.1, closed_some)
 words_joined (w ∷ v ∷ ws) h =
     let p = and_parts (ltb 0 (length w)) (no_space w) h.0 in
-    joins [] w (joined (v ∷ ws)) p.1 ∙ closed_some w (words (joined (v ∷ ws))) (ltb-true 0 (length w) p.0) ∙ ap (λ xs. w ∷ xs) (words_joined (v ∷ ws) h.1)
+    grind (arith, p, joins [] w (joined (v ∷ ws)) p.1, closed_some, words_joined (v ∷ ws) h.1)
 
 -- decimal digits
 abbrev read_on : ℕ → List ℕ → ℕ
@@ -65,18 +63,18 @@ solid : (ds : List ℕ) → all_ascii_digits ds ≡ true → no_space ds ≡ tru
 solid [] h = refl
 solid (b ∷ ds) h =
     let p = and_parts (is_ascii_digit b) (all_ascii_digits ds) h in
-    and_from (not (is_space b)) (no_space ds) (digit_solid b p.0) (solid ds p.1)
+    grind (arith, digit_solid b p.0, solid ds p.1)
 
 gathers : (most n : ℕ) (ds : List ℕ) → all_ascii_digits ds ≡ true → digits_after most n ds ≡ Some (min (read_on n ds) most)
 unfolding digits_after
 gathers most n [] h = refl
 gathers most n (b ∷ ds) h =
     let p = and_parts (is_ascii_digit b) (all_ascii_digits ds) h in
-    cond-true (is_ascii_digit b) (digits_after most (n * 10 + (b - 48)) ds) None p.0 ∙ gathers most (n * 10 + (b - 48)) ds p.1
+    grind (arith, p, gathers most (n * 10 + (b - 48)) ds p.1)
 
 pub decimal_word : (n : ℕ) → n < 2 ^ 64 → is_word (decimal n) ≡ true
-decimal_word n h = and_from (ltb 0 (length (decimal n))) (no_space (decimal n)) (lt-ltb 0 (length (decimal n)) (decimal_nonempty n h)) (solid (decimal n) (digits_decimal own n h))
+decimal_word n h = grind (arith, decimal_nonempty n h, solid (decimal n) (digits_decimal own n h))
 
 pub number_decimal : (most n : ℕ) → n < 2 ^ 64 → n ≤ most → number_of most (decimal n) ≡ Some n
 number_decimal most n h k =
-    sym (some_digits most (decimal n) (decimal_nonempty n h)) ∙ gathers most 0 (decimal n) (digits_decimal own n h) ∙ ap Some (ap (λ v. min v most) (digits_value-decimal own n h) ∙ omega arith)
+    grind (arith, some_digits most (decimal n) (decimal_nonempty n h), gathers most 0 (decimal n) (digits_decimal own n h), digits_value-decimal own n h)

@@ -1,5 +1,6 @@
 -- A line's first word and what is left behind it.
 use Rattle.std.proofs.Common.{◌≡◌, ℕ, ◌+◌, ◌<◌, Bool, true, false, not, List, [], ◌∷◌, ◌++◌, length, take, drop, sym, refl, ap, ◌∙◌, append_assoc, append-nil, one-add, arith}
+use Rattle.std.proofs.lemmas.List.{take_rest}
 use Rattle.std.proofs.lemmas.Bool.{cond-true, cond-false, cond_both, not_from_false}
 use Rattle.std.proofs.lemmas.List.Folds.{length-prefix_len}
 use Rattle.std.specs.List.{prefix_len}
@@ -67,3 +68,5 @@ unfolding words_from
 word_none bs h =
     let nil : front bs ≡ [] = begins bs h in
     (sym (skip bs) ∙ ap words nil, rw h (ap words nil))
+
+pub ruleset cuts = (word_first, word_none, take_rest)

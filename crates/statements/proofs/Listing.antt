@@ -8,7 +8,8 @@ use Rattle.std.specs.Option.{ok_or}
 use Rattle.std.specs.Str.{bytes_eq, chars}
 use Rattle.statements.specs.declared.statement.Expected.TheVariants.{File, Rate}
 use Rattle.statements.specs.declared.statement.ParseError.TheVariants.{Expected as expected}
-use Rattle.statements.specs.Fields.{and_then, most32, rates_from, is_text, file_at}
+use Rattle.statements.specs.Results.{and_then}
+use Rattle.statements.specs.Fields.{most32, rates_from, is_text, file_at}
 use Rattle.statements.specs.Numbers.{number_of}
 use Rattle.statements.specs.Words.{first, rest}
 

@@ -15,7 +15,8 @@ use Rattle.statements.specs.declared.statement.Expected.TheVariants.{File, Rate}
 use Rattle.statements.specs.declared.statement.MethodName.{MethodName}
 use Rattle.statements.specs.declared.statement.MethodName.TheVariants.{ValueStack, Volumetric}
 use Rattle.statements.specs.declared.statement.ParseError.TheVariants.{Expected as expected}
-use Rattle.statements.specs.Fields.{and_then, most8, most16, most32, most64, rates_from}
+use Rattle.statements.specs.Results.{and_then}
+use Rattle.statements.specs.Fields.{most8, most16, most32, most64, rates_from}
 use Rattle.statements.specs.Meanings.{
   Meaning,
   a_method,
@@ -83,6 +84,9 @@ rates_joined : (w : List ℕ) (rs : List ℕ) → w ++ flat_map rate_text rs ≡
 rates_joined w [] = append-nil w
 rates_joined w (r ∷ rs) = ap (λ t. w ++ 32 ∷ t) (rates_joined (decimal r) rs)
 
+rates_here : (rs : List ℕ) → text_of (some_rates rs) ≡ joined (words_of (some_rates rs))
+rates_here rs = rates_joined (codes "rates") rs
+
 rate_words : (rs : List ℕ) → AllByRecursion (λ r. r ≤ most32) rs → AreWords (map decimal rs)
 rate_words [] h = tt
 rate_words (r ∷ rs) h = (decimal_word r (omega (arith, h.0)), rate_words rs h.1)
@@ -97,86 +101,35 @@ rates_again acc (r ∷ rs) e =
 
 -- the words of the text
 text_joined : (m : Meaning) → text_of m ≡ joined (words_of m)
-text_joined (a_method name) = refl
-text_joined (a_book (Table places)) = refl
-text_joined (a_book (Image bytes)) = refl
-text_joined (an_opening project) = refl
-text_joined (some_rates rates) = rates_joined (codes "rates") rates
-text_joined (a_line l) = refl
-text_joined (a_request name) = refl
-text_joined an_enrolment = refl
-text_joined (a_reading units) = refl
-text_joined (a_bill account cents) = refl
-text_joined (a_final_bill account cents) = refl
-text_joined (a_disbursement account units) = refl
-text_joined a_lapse = refl
-text_joined a_close = refl
+text_joined m = grind (arith, rates_here)
 
 method_word : (name : MethodName) → is_word (method_text name) ≡ true
-method_word ValueStack = refl
-method_word Volumetric = refl
+method_word name = grind arith
 
 project_word : (farm : Bool) → is_word (project_text farm) ≡ true
-project_word true = refl
-project_word false = refl
+project_word farm = grind arith
 
 size_word : (size : Size) → is_word (size_text size) ≡ true
-size_word Small = refl
-size_word Large = refl
+size_word size = grind arith
 
 kind_word : (kind : Kind) → is_word (kind_text kind) ≡ true
-kind_word Member = refl
-kind_word Anchor = refl
+kind_word kind = grind arith
 
 are_words : (m : Meaning) → Fitting m → readable m ≡ true → AreWords (words_of m)
-are_words (a_method name) f r = (refl, (method_word name, tt))
-are_words (a_book (Table places)) f r = (refl, (refl, (decimal_word places f, tt)))
-are_words (a_book (Image bytes)) f r = (refl, (refl, (decimal_word bytes f, tt)))
-are_words (an_opening project) f r = (refl, (decimal_word project.smallest (omega arith), (project_word project.farm, tt)))
-are_words (some_rates rates) f r = (refl, rate_words rates f)
-are_words (a_line l) f r =
-    (refl, (decimal_word l.account (omega arith), (decimal_word l.percentage (omega arith), (decimal_word l.savings (omega arith), (decimal_word l.class (omega arith), (size_word l.size, (kind_word l.kind, tt)))))))
-are_words (a_request name) f r = (refl, (r, tt))
-are_words an_enrolment f r = (refl, tt)
-are_words (a_reading units) f r = (refl, (decimal_word units f, tt))
-are_words (a_bill account cents) f r = (refl, (decimal_word account f.0, (decimal_word cents f.1, tt)))
-are_words (a_final_bill account cents) f r = (refl, (decimal_word account f.0, (decimal_word cents f.1, tt)))
-are_words (a_disbursement account units) f r = (refl, (decimal_word account f.0, (decimal_word units f.1, tt)))
-are_words a_lapse f r = (refl, tt)
-are_words a_close f r = (refl, tt)
+are_words m f r = grind (arith, decimal_word, rate_words, method_word, project_word, size_word, kind_word)
 
 -- what the words say
 method_said : (name : MethodName) → words_say (words_of (a_method name)) ≡ Ok (Some (a_method name))
-method_said ValueStack = refl
-method_said Volumetric = refl
+method_said name = grind arith
 
 project_said : (n : ℕ) (farm : Bool) → number_of most32 (decimal n) ≡ Some n → words_say (codes "open" ∷ decimal n ∷ project_text farm ∷ []) ≡ Ok (Some (an_opening (record { smallest = n; farm = farm })))
-project_said n true e = rw e refl
-project_said n false e = rw e refl
+project_said n farm e = grind (arith, e)
 
 line_said : (l : Line) (size : Size) (kind : Kind) → number_of most64 (decimal l.account) ≡ Some l.account → number_of most32 (decimal l.percentage) ≡ Some l.percentage → number_of most16 (decimal l.savings) ≡ Some l.savings → number_of most8 (decimal l.class) ≡ Some l.class → words_say (words_of (a_line (record l { size = size; kind = kind }))) ≡ Ok (Some (a_line (record l { size = size; kind = kind })))
-line_said l Small Member a p s k = rw (a, p, s, k) refl
-line_said l Small Anchor a p s k = rw (a, p, s, k) refl
-line_said l Large Member a p s k = rw (a, p, s, k) refl
-line_said l Large Anchor a p s k = rw (a, p, s, k) refl
+line_said l size kind a p s k = grind (arith, a, p, s, k)
 
 said : (m : Meaning) → Fitting m → words_say (words_of m) ≡ Ok (Some m)
-said (a_method name) f = method_said name
-said (a_book (Table places)) f = rw (number_decimal most64 places f (omega arith)) refl
-said (a_book (Image bytes)) f = rw (number_decimal most64 bytes f (omega arith)) refl
-said (an_opening project) f = project_said project.smallest project.farm (number_decimal most32 project.smallest (omega arith) (omega arith))
-said (some_rates rates) f = rw (rates_again [] rates f) refl
-said (a_line l) f =
-    line_said l l.size l.kind (number_decimal most64 l.account (omega arith) (omega arith)) (number_decimal most32 l.percentage (omega arith) (omega arith)) (number_decimal most16 l.savings (omega arith) (omega arith)) (number_decimal most8 l.class (omega arith) (omega arith))
-said (a_request name) f =
-    ap (λ t. and_then (and_then (and_then (cond t (Ok name) (Err (expected File))) λ n. Ok n) λ n. Ok (a_request n)) λ m. Ok (Some m)) (text_is name f)
-said an_enrolment f = refl
-said (a_reading units) f = rw (number_decimal most64 units f (omega arith)) refl
-said (a_bill account cents) f = rw (number_decimal most64 account f.0 (omega arith), number_decimal most64 cents f.1 (omega arith)) refl
-said (a_final_bill account cents) f = rw (number_decimal most64 account f.0 (omega arith), number_decimal most64 cents f.1 (omega arith)) refl
-said (a_disbursement account units) f = rw (number_decimal most64 account f.0 (omega arith), number_decimal most64 units f.1 (omega arith)) refl
-said a_lapse f = refl
-said a_close f = refl
+said m f = grind (arith, number_decimal, rates_again, text_is, project_said, line_said)
 
 pub written : (m : Meaning) (bs : List ℕ) → Fitting m → bs ≡ text_of m → Written m bs
 written m bs f e =

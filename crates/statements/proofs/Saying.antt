@@ -7,7 +7,7 @@ use Rattle.statements.specs.declared.statement.Expected.TheVariants as what
 use Rattle.statements.specs.declared.statement.ParseError.{ParseError}
 use Rattle.statements.specs.declared.statement.ParseError.TheVariants.{Expected as expected, NoMemory}
 use Rattle.statements.specs.declared.statement.Statement.{Statement}
-use Rattle.statements.specs.Fields.{and_then}
+use Rattle.statements.specs.Results.{and_then}
 use Rattle.statements.specs.Keywords.{keyword_of}
 use Rattle.statements.specs.Meanings.{meaning, says, says_named, is_remark, words_say, keeps, keeps_named, asks_memory, Told}
 use Rattle.statements.specs.Words.{first, rest}
@@ -44,3 +44,5 @@ told xs w ws k head tail plain named (Err NoMemory) t q m = rw m tt
 
 pub asks : (xs : List (List ℕ)) (w : List ℕ) (ws : List (List ℕ)) (k : Keyword) → Some w ≡ first xs → ws ≡ rest xs → keyword_of w ≡ Some k → keeps k ≡ true → asks_memory xs ≡ true
 asks xs w ws k head tail named e = ap asks_memory (split xs w ws head tail) ∙ ap keeps_named named ∙ e
+
+pub ruleset saying = (told, unnamed, asks)

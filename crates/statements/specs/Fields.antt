@@ -1,12 +1,12 @@
 -- The words behind a statement's first, each with what is expected in its place.
-use Rattle.std.specs.Prelude.{ℕ, Bool, true, false, cond, ◌&&◌, List, [], ◌∷◌, ◌++◌, Some, None, Ok, Err, codes, Option, Result}
+use Rattle.std.specs.Prelude.{◌≡◌, ℕ, Bool, true, false, cond, ◌&&◌, List, [], ◌∷◌, ◌++◌, Some, None, Ok, Err, codes, Option, Result}
 use Rattle.std.proofs.Math.Utf8.{encodes, scalars}
 use Rattle.std.specs.Option.{ok_or}
+use Rattle.std.specs.Result.{result_ok}
 use Rattle.std.specs.Str.{bytes_eq, chars}
 use Rattle.accounts.specs.declared.project.Project.{Project}
 use Rattle.accounts.specs.declared.record.Line.{Line}
-use Rattle.accounts.specs.declared.record.Size.TheVariants.{Small, Large}
-use Rattle.accounts.specs.declared.record.Kind.TheVariants.{Member, Anchor}
+use Rattle.accounts.specs.Marks.{size_of, kind_of}
 use Rattle.statements.specs.declared.statement.BookKind.{BookKind}
 use Rattle.statements.specs.declared.statement.BookKind.TheVariants.{Table, Image}
 use Rattle.statements.specs.declared.statement.Expected.{Expected}
@@ -16,11 +16,8 @@ use Rattle.statements.specs.declared.statement.MethodName.TheVariants.{ValueStac
 use Rattle.statements.specs.declared.statement.ParseError.{ParseError}
 use Rattle.statements.specs.declared.statement.ParseError.TheVariants.{Expected as expected}
 use Rattle.statements.specs.Numbers.{number_of}
+use Rattle.statements.specs.Results.{and_then}
 use Rattle.statements.specs.Words.{first, rest}
-
-abbrev pub and_then : {X Y : Type 0} → Result X ParseError → (X → Result Y ParseError) → Result Y ParseError
-and_then (Ok x) next = next x
-and_then (Err e) next = Err e
 
 abbrev pub number_at : Expected → ℕ → Option (List ℕ) → Result ℕ ParseError
 number_at what most None = Err (expected what)
@@ -30,6 +27,20 @@ number_at what most (Some w) = ok_or (number_of most w) (expected what)
 abbrev pub either_at : {X : Type 0} → Expected → List ℕ → X → List ℕ → X → Option (List ℕ) → Result X ParseError
 either_at what name x other y None = Err (expected what)
 either_at what name x other y (Some w) = cond (bytes_eq w name) (Ok x) (cond (bytes_eq w other) (Ok y) (Err (expected what)))
+
+-- a mark is a word of one byte
+abbrev pub mark_at : {X : Type 0} → Expected → (ℕ → Option X) → Option (List ℕ) → Result X ParseError
+mark_at what marked None = Err (expected what)
+mark_at what marked (Some []) = Err (expected what)
+mark_at what marked (Some (b ∷ [])) = ok_or (marked b) (expected what)
+mark_at what marked (Some (b ∷ c ∷ w)) = Err (expected what)
+
+-- what was read is a mark of the word, as a conversion gives it
+abbrev pub IsMark : {X E : Type 0} → Expected → (ℕ → Result X E → Type 0) → Option (List ℕ) → Result X ParseError → Type 0
+IsMark what gives None r = r ≡ Err (expected what)
+IsMark what gives (Some []) r = r ≡ Err (expected what)
+IsMark {X} {E} what gives (Some (b ∷ [])) r = (q : Result X E) × gives b q × (r ≡ ok_or (result_ok q) (expected what))
+IsMark what gives (Some (b ∷ c ∷ w)) r = r ≡ Err (expected what)
 
 abbrev pub end_at : Option (List ℕ) → Result (Unit {0}) ParseError
 end_at None = Ok tt
@@ -81,8 +92,8 @@ rates_from rs (w ∷ ws) = and_then (number_at what.Rate most32 (Some w)) λ r. 
 
 abbrev pub letters_of : ℕ → ℕ → ℕ → ℕ → List (List ℕ) → Result Line ParseError
 letters_of account percentage savings class ws =
-    and_then (either_at what.Size (codes "S") Small (codes "L") Large (first ws)) λ size.
-    and_then (either_at what.Kind (codes "M") Member (codes "X") Anchor (first (rest ws))) λ kind.
+    and_then (mark_at what.Size size_of (first ws)) λ size.
+    and_then (mark_at what.Kind kind_of (first (rest ws))) λ kind.
     and_then (end_at (first (rest (rest ws)))) λ _.
     Ok (record { account = account; percentage = percentage; savings = savings; class = class; size = size; kind = kind })
 

@@ -13,8 +13,8 @@ use Rattle.statements.specs.declared.statement.Statement.{Statement}
 use Rattle.statements.specs.declared.statement.Statement.TheVariants as is
 use Rattle.statements.specs.Words.{words}
 use Rattle.statements.specs.Keywords.{keyword_of}
+use Rattle.statements.specs.Results.{and_then}
 use Rattle.statements.specs.Fields.{
-  and_then,
   method_of,
   book_of,
   open_of,

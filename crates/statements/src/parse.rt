@@ -1,9 +1,10 @@
 // What a line says.
-ghost use Rattle.std.specs.Prelude.{◌≡◌, true, [], Err, string_bytes};
+ghost use Rattle.std.specs.Prelude.{◌≡◌, true, [], Ok, Err, string_bytes};
 ghost use Rattle.std.specs.Option.{option_map};
 ghost use Rattle.statements.specs.declared.statement.ParseError.TheVariants.{NoMemory};
-ghost use Rattle.statements.specs.Words.{words};
-ghost use Rattle.statements.specs.Fields.{method_of, book_of, open_of, rates_from, line_of, request_of, number_alone, account_and};
+ghost use Rattle.statements.specs.Words.{words, first};
+ghost use Rattle.statements.specs.Fields.{method_of, book_of, open_of, rates_from, line_of, request_of, number_alone, account_and, end_at};
+ghost use Rattle.statements.specs.Results.{and_then};
 ghost use Rattle.statements.specs.Meanings.{meaning, says, keeps, is_remark, statement_of, asks_memory, Told};
 
 use crate::keyword::Keyword;
@@ -11,7 +12,7 @@ use crate::number::number;
 use crate::reader::Reader;
 use crate::statement::{BookKind, Expected, MethodName, ParseError, Statement};
 use accounts::project::Project;
-use accounts::record::{Kind, Line, Size};
+use accounts::record::Line;
 use std::alloc::Global;
 
 fn read_method(line: &mut Reader) -> Result<MethodName, ParseError>
@@ -58,8 +59,8 @@ fn read_line(line: &mut Reader) -> Result<Line, ParseError>
     let percentage = line.number(Expected::Percentage, u64::from(u32::MAX))? as u32;
     let savings = line.number(Expected::Savings, u64::from(u16::MAX))? as u16;
     let class = line.number(Expected::Class, u64::from(u8::MAX))? as u8;
-    let size = line.either(Expected::Size, ("S", Size::Small), ("L", Size::Large))?;
-    let kind = line.either(Expected::Kind, ("M", Kind::Member), ("X", Kind::Anchor))?;
+    let size = line.mark(Expected::Size)?;
+    let kind = line.mark(Expected::Kind)?;
     line.end()?;
     Ok(Line {
         account,
@@ -109,6 +110,14 @@ fn read_request(line: &mut Reader, heap: Global) -> Result<String, ParseError>
     Ok(String::from_str(heap, name)?)
 }
 
+// A statement of one word.
+fn read_alone(line: &mut Reader, statement: Statement) -> Result<Statement, ParseError>
+    ensures { result ≡ and_then (end_at (first (words line.old.left.now))) (λ _. Ok statement) }
+{
+    line.end()?;
+    Ok(statement)
+}
+
 // The statement of a first word and the words behind it.
 fn read_statement(
     keyword: Keyword,
@@ -126,6 +135,7 @@ fn read_statement(
         Keyword::Line => Ok(Statement::Line(read_line(line)?)),
         Keyword::Request => Ok(Statement::Request(read_request(line, heap)?)),
         Keyword::Reading => Ok(Statement::Reading(read_number(line, Expected::Units)?)),
+        // each of the next three makes a variant with named fields, which is no value that a helper could take
         Keyword::Bill => {
             let (account, cents) = read_account_and(line, Expected::Cents)?;
             Ok(Statement::Bill { account, cents })
@@ -138,18 +148,9 @@ fn read_statement(
             let (account, units) = read_account_and(line, Expected::Units)?;
             Ok(Statement::Disburse { account, units })
         }
-        Keyword::Enrol => {
-            line.end()?;
-            Ok(Statement::Enrol)
-        }
-        Keyword::Lapse => {
-            line.end()?;
-            Ok(Statement::Lapse)
-        }
-        Keyword::Close => {
-            line.end()?;
-            Ok(Statement::Close)
-        }
+        Keyword::Enrol => read_alone(line, Statement::Enrol),
+        Keyword::Lapse => read_alone(line, Statement::Lapse),
+        Keyword::Close => read_alone(line, Statement::Close),
     }
 }
 
@@ -160,7 +161,7 @@ fn is_remark(word: &[u8]) -> bool
 }
 
 // The statement of a line; none where the line is blank or a remark, which begins with `#`.
-#[tactic(auto, using(crate::proofs::Saying::asks))]
+#[tactic(auto, using(crate::proofs::Saying::saying))]
 pub fn parse(line: &[u8], heap: Global) -> Result<Option<Statement>, ParseError>
     ensures value { Told (option_map meaning) (statement_of line.now) result }
     ensures memory { result ≡ Err NoMemory → asks_memory (words line.now) ≡ true }

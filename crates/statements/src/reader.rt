@@ -3,11 +3,12 @@ ghost use Rattle.std.specs.Prelude.{◌≡◌, ◌≤◌, length, IfOk};
 ghost use Rattle.std.specs.Option.{option_map};
 ghost use Rattle.std.specs.List.{prefix_len};
 ghost use Rattle.statements.specs.Words.{is_space, in_run, words, first, rest};
-ghost use Rattle.statements.specs.Fields.{number_at, either_at, file_at, end_at};
+ghost use Rattle.statements.specs.Fields.{number_at, either_at, IsMark, file_at, end_at};
 ghost use Rattle.statements.specs.Meanings.{Told};
 
 use crate::number::number;
 use crate::statement::{Expected, ParseError};
+use accounts::marks::UnknownMark;
 use std::str::from_utf8;
 
 fn is_space(b: u8) -> bool
@@ -31,6 +32,7 @@ pub struct Reader<'a> {
 
 impl<'a> Reader<'a> {
     // The next word, or nothing at the line's end.
+    #[tactic(auto, using(crate::proofs::Cutting::cuts))]
     pub fn word(&mut self) -> Option<&'a [u8]>
         ensures value { option_map (λ x. x.now) result ≡ first (words self.old.left.now) }
         ensures left { words self.new.left.now ≡ rest (words self.old.left.now) }
@@ -67,6 +69,20 @@ impl<'a> Reader<'a> {
         match self.word() {
             Some(word) if word == one.0.as_bytes() => Ok(one.1),
             Some(word) if word == other.0.as_bytes() => Ok(other.1),
+            _ => Err(ParseError::Expected(what)),
+        }
+    }
+
+    // The mark that the next word is, a word of one byte.
+    pub fn mark<T: TryFrom<u8, Error = UnknownMark> + Copy>(
+        &mut self,
+        what: Expected,
+    ) -> Result<T, ParseError>
+        ensures value { IsMark what T.try_from_gives (first (words self.old.left.now)) result }
+        ensures left { words self.new.left.now ≡ rest (words self.old.left.now) }
+    {
+        match self.word() {
+            Some([byte]) => T::try_from(*byte).or(Err(ParseError::Expected(what))),
             _ => Err(ParseError::Expected(what)),
         }
     }

@@ -1,21 +1,11 @@
 -- The front of a table as the records of a book.
-use Rattle.std.proofs.Common.{◌≡◌, ℕ, ◌+◌, ◌<◌, min, true, cond, eqb, List, [], ◌∷◌, length, take, set, Some, refl, ap, ◌∙◌, arith}
-use Rattle.std.proofs.lemmas.Iterator.Adapters.{position_from-zero}
+use Rattle.std.proofs.Common.{◌≡◌, ℕ, ◌+◌, ◌<◌, min, true, List, length, take, set, arith}
 use Rattle.std.proofs.lemmas.List.{length-set, length-take, take_more_set}
 use Rattle.std.proofs.Math.Seq.{take-set-lt}
-use Rattle.std.specs.List.{position, position_from}
 use Rattle.accounts.specs.declared.record.Record.{Record}
-use Rattle.accounts.specs.Books.{accounts, find_from, find, Proper, takes, suits}
+use Rattle.accounts.specs.Books.{Proper, takes, suits}
 use Rattle.accounts.proofs.Answering.{takes_parts, suits_parts}
 use Rattle.accounts.proofs.Keeping.{proper_add, proper_replace}
-
-found_from : (a i : ℕ) (rs : List Record) → position_from (λ r. eqb r.account a) i rs ≡ find_from i a (accounts rs)
-found_from a i [] = refl
-found_from a i (r ∷ rs) = ap (cond (eqb r.account a) (Some i)) (found_from a (i + 1) rs)
-
--- the first record of an account is where a search finds it
-pub find_position : (a : ℕ) (rs : List Record) → position (λ r. eqb r.account a) rs ≡ find a (accounts rs)
-find_position a rs = position_from-zero (λ r. eqb r.account a) rs ∙ found_from a 0 rs
 
 -- a record put after the last, and one put in the place of another
 pub proper_added : (table : List Record) (n : ℕ) (r : Record) → Proper (take n table) (min 4096 (length table)) → takes (take n table) (min 4096 (length table)) r ≡ true → Proper (take (n + 1) (set table n r)) (min 4096 (length (set table n r)))

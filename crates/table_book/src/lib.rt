@@ -6,9 +6,8 @@ ghost use Rattle.std.specs.List.{slice_get};
 ghost use Rattle.accounts.specs.Books.{accounts, find, present, takes, added, suits, replaced, Proper, Left};
 
 use accounts::book::AccountBook;
+use accounts::limits::MOST_RECORDS;
 use accounts::record::Record;
-
-const MOST_RECORDS: usize = 4_096;
 
 // The first `count` places of the table are the book; the places after them keep what they held.
 #[derive(Drop)]
@@ -98,6 +97,7 @@ impl<'a> AccountBook for TableBook<'a> {
             .position(|record| record.account == account)
     }
 
+    // `add` and `replace` stand in each book: in one place they would need a public `push` with a `requires`
     fn add(&mut self, new: Record) -> bool
         ensures answer { result ≡ takes (records_of self.old) (room_of self.old) new }
         ensures after { Left (Sound self.new) (contents_of self.new) (contents_of self.old) (added result (records_of self.old) new) }

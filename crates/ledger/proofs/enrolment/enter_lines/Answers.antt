@@ -1,5 +1,6 @@
 use Rattle.std.proofs.Common.{◌+◌, ◌≤◌, ◌∷◌, length, get_or, drop, sym, refl, ap, ◌∙◌, subst, arith}
 use Rattle.std.proofs.lemmas.List.{at_drop_more}
+use Rattle.std.proofs.lemmas.List.Sums.{sum_by-cons}
 use Rattle.ledger.specs.Lines.{enter_all, joins, new_accounts}
 use Rattle.ledger.specs.Records.{record_of}
 use Rattle.ledger.proofs.Entering.{every_at, enter_fits}
@@ -18,7 +19,7 @@ loop-line-preserved g c s k fits =
     let taken = c.loop-line-test.true in
     let h = c.loop-line.invariant s k fits in
     let now-fits : length rs + new_accounts rs (l ∷ left) ≤ (b.contents c.loop-line.book).room = omega (arith, h.2, at_drop_more (new_accounts rs) ls i zero_line taken) in
-    let one : length rs + joins rs l ≤ (b.contents c.loop-line.book).room = omega arith in
+    let one : length rs + joins rs l ≤ (b.contents c.loop-line.book).room = omega (arith, sum_by-cons (joins rs) l left) in
     let e = c.enter_line.ensures h.0.stays (every_at ls i taken k) one in
     let o = record_of l.account rs in (
       left_as (left_on h.0 e) (sym e.list),

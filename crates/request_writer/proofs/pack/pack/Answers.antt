@@ -2,7 +2,6 @@ use Rattle.std.proofs.Common.{map, arith}
 use Rattle.std.proofs.lemmas.List.{length-map}
 use Rattle.std.proofs.lemmas.Grind.{common_steps}
 use Rattle.request_writer.specs.Packing.{item, file_of}
-use Rattle.request_writer.proofs.Packs.{two_bytes}
 use Rattle.request_writer.proofs.Trips.{packs, packed, numbers_at}
 use Rattle.request_writer.proofs.pack.pack.Goals as goal
 
@@ -26,4 +25,4 @@ unfolding file_of
 returns c =
     let is = packs (map item c.args.entries.now) c.requires in
     let long = length-map c.args.entries.now item in
-    grind (arith, common_steps, two_bytes)
+    grind (arith, common_steps)

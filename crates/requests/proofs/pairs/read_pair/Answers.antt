@@ -1,7 +1,8 @@
-use Rattle.std.proofs.Common.{add-zero, arith}
-use Rattle.requests.specs.Meaning.{little, pair_at}
+use Rattle.std.proofs.Common.{arith}
+use Rattle.std.proofs.lemmas.List.{get_or-drop}
+use Rattle.requests.specs.Meaning.{pair_at}
 use Rattle.requests.proofs.pairs.read_pair.Goals as goal
 
 pub returns : goal.returns
-unfolding pair_at little
-returns c = grind (arith, add-zero)
+unfolding pair_at
+returns c = simp get_or-drop (grind arith)

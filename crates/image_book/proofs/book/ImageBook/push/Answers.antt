@@ -1,4 +1,3 @@
-use Rattle.std.proofs.Common.{rules}
 use Rattle.image_book.proofs.Changing.{reads_added}
 use Rattle.image_book.proofs.book.ImageBook.push.Goals as goal
 
@@ -6,14 +5,3 @@ pub invariant_of-self : goal.invariant_of-self
 invariant_of-self c =
     let b = c.args.self.now in
     record { reads = (reads_added b.image.now b.count b.room b.reads c.args.new c.append.new.image c.requires c.append.ensures).0 }
-
-pub returns-clause-after : goal.returns-clause-after
-returns-clause-after c =
-    let b = c.args.self.now in
-    record {
-      stays = search rules;
-      list = (reads_added b.image.now b.count b.room b.reads c.args.new c.append.new.image c.requires c.append.ensures).1;
-      same_room = search rules;
-      same_side = search rules;
-      same_loans = search rules;
-    }

@@ -1,13 +1,8 @@
 use Rattle.std.proofs.Common.{sym, ◌∙◌, arith}
-use Rattle.std.proofs.lemmas.Option.{slice_get_past}
-use Rattle.image_book.specs.Holding.{records_of}
 use Rattle.image_book.proofs.Slots.{record_here}
 use Rattle.image_book.proofs.Places.{nth_held}
 use Rattle.image_book.proofs.Opening.{legible_opened}
 use Rattle.image_book.proofs.book.ImageBookAccountBook.get.Goals as goal
-
-pub returns-then-place-self : goal.returns-then-place-self
-returns-then-place-self c = let b = c.args.self.now in sym (slice_get_past (records_of b) c.args.place (omega (arith, b.reads.whole)))
 
 pub returns : goal.returns
 returns c =
