@@ -8,37 +8,14 @@ use request_writer::refusal::WriteRefusal;
 use request_writer::writer::write;
 use requests::limits::MAX_LINES;
 use requests::reader::{read, remark};
-use statements::parse::parse;
-use statements::statement::{ParseError, Statement};
+use statements::packed::{Packed, read_packed};
+use statements::statement::Statement;
 use statements::write::write as write_statement;
-use std::alloc::Global;
 use std::fs;
 use std::str::from_utf8;
 
-const FIELDS: usize = 6;
-
 // The first word of a line's statement, and a space.
 const LINE_WORD: &str = "line ";
-
-// Where the six fields of a line end: each ends at a space behind a byte that is none.
-fn fields_end(text: &[u8]) -> usize {
-    text.windows(2)
-        .enumerate()
-        .filter(|(_, pair)| pair[0] != b' ' && pair[1] == b' ')
-        .nth(FIELDS - 1)
-        .map_or(text.len(), |(place, _)| place + 1)
-}
-
-// The six fields of a line.
-fn fields_of(text: &[u8]) -> &[u8] {
-    text.get(..fields_end(text)).unwrap_or(text)
-}
-
-// What follows the fields and a space.
-fn remark_of(text: &[u8]) -> &[u8] {
-    text.get(fields_end(text).saturating_add(1)..)
-        .unwrap_or(&[])
-}
 
 // The bytes of a file.
 pub(crate) fn read_file(rt: &HostRuntime, name: &str) -> anyhow::Result<Vec<u8>> {
@@ -46,22 +23,6 @@ pub(crate) fn read_file(rt: &HostRuntime, name: &str) -> anyhow::Result<Vec<u8>>
         Ok(bytes) => Ok(bytes),
         Err(why) => bail!("cabinet: {name} cannot be read: {why}"),
     }
-}
-
-// The line that a text's line tells.
-fn line_of(heap: Global, number: usize, text: &[u8]) -> anyhow::Result<Line> {
-    let mut statement = Vec::from_slice(heap, LINE_WORD.as_bytes())?;
-    statement.extend_from_slice(fields_of(text))?;
-    match parse(statement.as_slice(), heap) {
-        Ok(Some(Statement::Line(line))) => Ok(line),
-        Err(ParseError::Expected(what)) => bail!("text line {number}: expected {what}"),
-        _ => bail!("there is no memory for the text"),
-    }
-}
-
-// Whether a text's line is blank or a remark.
-fn tells_nothing(text: &[u8]) -> bool {
-    matches!(text.first(), None | Some(b'#'))
 }
 
 // Why lines cannot be packed, with the line of the text where it is one line's fault.
@@ -87,15 +48,14 @@ pub fn pack(rt: &HostRuntime, text: &str, file: &str) -> anyhow::Result<Ending> 
     // beside the entries, which the writer takes as they stand
     let mut numbers = Vec::new(heap);
     for (place, words) in lines.lines().enumerate() {
-        let words = words.as_bytes();
-        if tells_nothing(words) {
-            continue;
-        }
         let number = place.saturating_add(1);
-        let line = line_of(heap, number, words)?;
-        let remark = remark_of(words);
-        entries.push(Entry { line, remark })?;
-        numbers.push(number)?;
+        let packed = read_packed(words.as_bytes()).map_err(|why| anyhow!(
+            "text line {number}: {why}"
+        ))?;
+        if let Some(Packed { line, remark }) = packed {
+            entries.push(Entry { line, remark })?;
+            numbers.push(number)?;
+        }
     }
     let packed = write(entries.as_slice(), heap).map_err(|why| unpacked(why, numbers.as_slice()))?;
     fs::write(rt, file, packed.as_slice())?;

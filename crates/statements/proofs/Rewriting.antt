@@ -1,5 +1,5 @@
 -- The text of a statement is read as the statement.
-use Rattle.std.proofs.Common.{◌≡◌, ℕ, suc, ◌^◌, ◌<◌, ◌≤◌, Bool, true, false, cond, List, [], ◌∷◌, ◌++◌, map, get_or, Some, Ok, Err, IsUtf8, codes, decimal, string_bytes, IfOk, Result, String, Global, sym, refl, ap, ◌∙◌, append_assoc, append-nil, arith}
+use Rattle.std.proofs.Common.{◌≡◌, ℕ, suc, ◌^◌, ◌<◌, ◌≤◌, Bool, true, List, [], ◌∷◌, ◌++◌, map, get_or, Some, Ok, IsUtf8, codes, decimal, string_bytes, IfOk, Result, String, Global, sym, ap, ◌∙◌, append_assoc, append-nil, arith}
 use Rattle.std.proofs.lemmas.Result.{IfOk-weaker}
 use Rattle.std.specs.List.{flat_map, AllByRecursion}
 use Rattle.std.specs.Option.{ok_or}
@@ -7,13 +7,10 @@ use Rattle.std.specs.declared.alloc.AllocError.{AllocError}
 use Rattle.accounts.specs.Marks.{size_text, kind_text}
 use Rattle.accounts.specs.declared.record.Line.{Line}
 use Rattle.accounts.specs.declared.record.Size.{Size}
-use Rattle.accounts.specs.declared.record.Size.TheVariants.{Small, Large}
 use Rattle.accounts.specs.declared.record.Kind.{Kind}
-use Rattle.accounts.specs.declared.record.Kind.TheVariants.{Member, Anchor}
 use Rattle.statements.specs.declared.statement.BookKind.TheVariants.{Table, Image}
-use Rattle.statements.specs.declared.statement.Expected.TheVariants.{File, Rate}
+use Rattle.statements.specs.declared.statement.Expected.TheVariants.{Rate}
 use Rattle.statements.specs.declared.statement.MethodName.{MethodName}
-use Rattle.statements.specs.declared.statement.MethodName.TheVariants.{ValueStack, Volumetric}
 use Rattle.statements.specs.declared.statement.ParseError.TheVariants.{Expected as expected}
 use Rattle.statements.specs.Results.{and_then}
 use Rattle.statements.specs.Fields.{most8, most16, most32, most64, rates_from}

@@ -90,20 +90,27 @@ unfoldable pub rates_from : List ℕ → List (List ℕ) → Result (List ℕ) P
 rates_from rs [] = Ok rs
 rates_from rs (w ∷ ws) = and_then (number_at what.Rate most32 (Some w)) λ r. rates_from (rs ++ r ∷ []) ws
 
-abbrev pub letters_of : ℕ → ℕ → ℕ → ℕ → List (List ℕ) → Result Line ParseError
-letters_of account percentage savings class ws =
+abbrev pub marks_of : ℕ → ℕ → ℕ → ℕ → List (List ℕ) → Result Line ParseError
+marks_of account percentage savings class ws =
     and_then (mark_at what.Size size_of (first ws)) λ size.
     and_then (mark_at what.Kind kind_of (first (rest ws))) λ kind.
-    and_then (end_at (first (rest (rest ws)))) λ _.
     Ok (record { account = account; percentage = percentage; savings = savings; class = class; size = size; kind = kind })
 
-abbrev pub line_of : List (List ℕ) → Result Line ParseError
-line_of ws =
+-- the six fields of a line
+abbrev pub six_of : List (List ℕ) → Result Line ParseError
+six_of ws =
     and_then (number_at what.Account most64 (first ws)) λ account.
     and_then (number_at what.Percentage most32 (first (rest ws))) λ percentage.
     and_then (number_at what.Savings most16 (first (rest (rest ws)))) λ savings.
     and_then (number_at what.Class most8 (first (rest (rest (rest ws))))) λ class.
-    letters_of account percentage savings class (rest (rest (rest (rest ws))))
+    marks_of account percentage savings class (rest (rest (rest (rest ws))))
+
+-- and no word behind them
+abbrev pub line_of : List (List ℕ) → Result Line ParseError
+line_of ws =
+    and_then (six_of ws) λ line.
+    and_then (end_at (first (rest (rest (rest (rest (rest (rest ws)))))))) λ _.
+    Ok line
 
 -- a file's name is text: the UTF-8 bytes of characters
 abbrev pub is_text : List ℕ → Bool

@@ -6,3 +6,4 @@ pub mod Fields
 pub mod Meanings
 pub mod Texts
 pub mod Mistakes
+pub mod Packed

@@ -1,5 +1,6 @@
 -- The words of a line.
-use Rattle.std.specs.Prelude.{ℕ, Bool, cond, not, ◌||◌, List, [], ◌∷◌, ◌++◌, Some, None, Option, ◌==◌}
+use Rattle.std.specs.Prelude.{ℕ, zero, suc, Bool, true, false, cond, not, ◌||◌, List, [], ◌∷◌, ◌++◌, drop, Some, None, Option, ◌==◌}
+use Rattle.std.specs.List.{prefix_len}
 
 -- a space, or a line's end: a carriage return or a line feed
 abbrev pub is_space : ℕ → Bool
@@ -28,3 +29,14 @@ first (w ∷ ws) = Some w
 abbrev pub rest : List (List ℕ) → List (List ℕ)
 rest [] = []
 rest (w ∷ ws) = ws
+
+-- what is left of a line behind its first word, and behind its first n
+abbrev pub after_run : Bool → List ℕ → List ℕ
+after_run spaces bs = drop (prefix_len (in_run spaces) bs) bs
+
+abbrev pub after_word : List ℕ → List ℕ
+after_word bs = after_run false (after_run true bs)
+
+abbrev pub after_words : ℕ → List ℕ → List ℕ
+after_words zero bs = bs
+after_words (suc n) bs = after_words n (after_word bs)

@@ -3,6 +3,7 @@
 
 mod keyword;
 mod number;
+pub mod packed;
 pub mod parse;
 mod reader;
 pub mod statement;

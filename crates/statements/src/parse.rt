@@ -1,9 +1,9 @@
 // What a line says.
-ghost use Rattle.std.specs.Prelude.{◌≡◌, true, [], Ok, Err, string_bytes};
+ghost use Rattle.std.specs.Prelude.{◌≡◌, true, [], Ok, Err, OnOk, string_bytes};
 ghost use Rattle.std.specs.Option.{option_map};
 ghost use Rattle.statements.specs.declared.statement.ParseError.TheVariants.{NoMemory};
-ghost use Rattle.statements.specs.Words.{words, first};
-ghost use Rattle.statements.specs.Fields.{method_of, book_of, open_of, rates_from, line_of, request_of, number_alone, account_and, end_at};
+ghost use Rattle.statements.specs.Words.{words, after_words, first, rest};
+ghost use Rattle.statements.specs.Fields.{method_of, book_of, open_of, rates_from, six_of, line_of, request_of, number_alone, account_and, end_at};
 ghost use Rattle.statements.specs.Results.{and_then};
 ghost use Rattle.statements.specs.Meanings.{meaning, says, keeps, is_remark, statement_of, asks_memory, Told};
 
@@ -52,8 +52,11 @@ fn read_open(line: &mut Reader) -> Result<Project, ParseError>
     Ok(Project { smallest, farm })
 }
 
-fn read_line(line: &mut Reader) -> Result<Line, ParseError>
-    ensures { result ≡ line_of (words line.old.left.now) }
+// The six fields of a line.
+pub(crate) fn read_fields(line: &mut Reader) -> Result<Line, ParseError>
+    ensures value { result ≡ six_of (words line.old.left.now) }
+    ensures left { OnOk result (words line.new.left.now ≡ rest (rest (rest (rest (rest (rest (words line.old.left.now))))))) }
+    ensures after { OnOk result (line.new.left.now ≡ after_words 6 line.old.left.now) }
 {
     let account = line.number(Expected::Account, u64::MAX)?;
     let percentage = line.number(Expected::Percentage, u64::from(u32::MAX))? as u32;
@@ -61,7 +64,6 @@ fn read_line(line: &mut Reader) -> Result<Line, ParseError>
     let class = line.number(Expected::Class, u64::from(u8::MAX))? as u8;
     let size = line.mark(Expected::Size)?;
     let kind = line.mark(Expected::Kind)?;
-    line.end()?;
     Ok(Line {
         account,
         percentage,
@@ -70,6 +72,14 @@ fn read_line(line: &mut Reader) -> Result<Line, ParseError>
         size,
         kind,
     })
+}
+
+fn read_line(line: &mut Reader) -> Result<Line, ParseError>
+    ensures { result ≡ line_of (words line.old.left.now) }
+{
+    let read = read_fields(line)?;
+    line.end()?;
+    Ok(read)
 }
 
 fn read_number(line: &mut Reader, what: Expected) -> Result<u64, ParseError>
@@ -154,7 +164,7 @@ fn read_statement(
     }
 }
 
-fn is_remark(word: &[u8]) -> bool
+pub(crate) fn is_remark(word: &[u8]) -> bool
     ensures { result ≡ is_remark word.now }
 {
     word.first() == Some(&b'#')

@@ -2,7 +2,7 @@
 ghost use Rattle.std.specs.Prelude.{◌≡◌, ◌≤◌, length, IfOk};
 ghost use Rattle.std.specs.Option.{option_map};
 ghost use Rattle.std.specs.List.{prefix_len};
-ghost use Rattle.statements.specs.Words.{is_space, in_run, words, first, rest};
+ghost use Rattle.statements.specs.Words.{is_space, in_run, words, after_word, first, rest};
 ghost use Rattle.statements.specs.Fields.{number_at, either_at, IsMark, file_at, end_at};
 ghost use Rattle.statements.specs.Meanings.{Told};
 
@@ -36,6 +36,7 @@ impl<'a> Reader<'a> {
     pub fn word(&mut self) -> Option<&'a [u8]>
         ensures value { option_map (λ x. x.now) result ≡ first (words self.old.left.now) }
         ensures left { words self.new.left.now ≡ rest (words self.old.left.now) }
+        ensures after { self.new.left.now ≡ after_word self.old.left.now }
     {
         let line = self.left;
         let start = run(line, true);
@@ -49,6 +50,7 @@ impl<'a> Reader<'a> {
     pub fn number(&mut self, what: Expected, most: u64) -> Result<u64, ParseError>
         ensures value { result ≡ number_at what most (first (words self.old.left.now)) }
         ensures left { words self.new.left.now ≡ rest (words self.old.left.now) }
+        ensures after { self.new.left.now ≡ after_word self.old.left.now }
         ensures bound { IfOk result (λ n. n ≤ most) }
     {
         self.word()
@@ -80,6 +82,7 @@ impl<'a> Reader<'a> {
     ) -> Result<T, ParseError>
         ensures value { IsMark what T.try_from_gives (first (words self.old.left.now)) result }
         ensures left { words self.new.left.now ≡ rest (words self.old.left.now) }
+        ensures after { self.new.left.now ≡ after_word self.old.left.now }
     {
         match self.word() {
             Some([byte]) => T::try_from(*byte).or(Err(ParseError::Expected(what))),
