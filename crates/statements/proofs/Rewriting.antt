@@ -2,13 +2,9 @@
 use Rattle.std.proofs.Common.{◌≡◌, ℕ, suc, ◌^◌, ◌<◌, ◌≤◌, true, List, [], ◌∷◌, ◌++◌, map, get_or, Some, Ok, IsUtf8, codes, decimal, string_bytes, IfOk, Result, String, Global, sym, ap, ◌∙◌, append_assoc, append-nil, arith}
 use Rattle.std.proofs.lemmas.Result.{IfOk-weaker}
 use Rattle.std.specs.List.{flat_map, AllByRecursion}
-use Rattle.std.specs.Option.{ok_or}
 use Rattle.std.specs.declared.alloc.AllocError.{AllocError}
 use Rattle.accounts.specs.Marks.{size_text, kind_text}
 use Rattle.statements.specs.declared.statement.BookKind.TheVariants.{Table, Image}
-use Rattle.statements.specs.declared.statement.Expected.TheVariants.{Rate}
-use Rattle.statements.specs.declared.statement.ParseError.TheVariants.{Expected as expected}
-use Rattle.statements.specs.Results.{and_then}
 use Rattle.statements.specs.Fields.{most32, rates_from}
 use Rattle.statements.specs.Meanings.{
   Meaning,
@@ -87,9 +83,7 @@ rates_again : (acc rs : List ℕ) → AllByRecursion (λ r. r ≤ most32) rs →
 unfolding rates_from
 rates_again acc [] e = ap Ok (sym (append-nil acc))
 rates_again acc (r ∷ rs) e =
-    ap (λ o. and_then (ok_or o (expected Rate)) λ n. rates_from (acc ++ n ∷ []) (map decimal rs)) (number_decimal most32 r (omega (arith, e.0)) e.0)
-    ∙ rates_again (acc ++ r ∷ []) rs e.1
-    ∙ ap Ok (append_assoc acc (r ∷ []) rs)
+    grind (arith, number_decimal most32 r (omega (arith, e.0)) e.0, rates_again (acc ++ r ∷ []) rs e.1, append_assoc)
 
 -- the words of the text
 text_joined : (m : Meaning) → text_of m ≡ joined (words_of m)
