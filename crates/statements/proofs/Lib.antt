@@ -4,3 +4,4 @@ pub mod Listing
 pub mod Saying
 pub mod Again
 pub mod Rewriting
+pub mod Cells
