@@ -1,5 +1,5 @@
 -- What any file holds can be packed.
-use Rattle.std.proofs.Common.{◌≡◌, ℕ, suc, ◌+◌, ◌*◌, ◌<◌, ◌≤◌, true, List, [], ◌∷◌, map, length, get_or, Some, Ok, refl, ap, ◌∙◌, subst, inl, inr, add-zero, zero-add, arith}
+use Rattle.std.proofs.Common.{◌≡◌, ℕ, suc, ◌+◌, ◌*◌, ◌<◌, ◌≤◌, true, List, [], ◌∷◌, map, length, get_or, Some, Ok, refl, ap, subst, inl, inr, add-zero, zero-add, arith}
 use Rattle.std.specs.List.{flat_map}
 use Rattle.std.specs.Option.{option_map}
 use Rattle.std.proofs.lemmas.List.{length-append, length-map, length-take}
@@ -8,7 +8,7 @@ use Rattle.std.proofs.lemmas.Bool.Decides.{nat_tests}
 use Rattle.accounts.specs.declared.record.Line.{Line}
 use Rattle.requests.specs.declared.pairs.Pair.{Pair}
 use Rattle.requests.specs.Form.{line_of}
-use Rattle.requests.specs.Meaning.{pair_at, end_of, fits, pairs_from, part, line_at, lines_from, meaning, remark_of, remark_at}
+use Rattle.requests.specs.Meaning.{pair_at, end_of, pairs_from, part, line_at, lines_from, meaning, remark_of, remark_at}
 use Rattle.requests.proofs.Numerals.{number_lt}
 use Rattle.requests.proofs.Judged.{lines_split}
 use Rattle.requests.proofs.Readings.{Meant, meant, count_ok}
