@@ -140,7 +140,7 @@ module _ {M : Type 0} (worth : M → ℕ → ℕ → ℕ) where
               within = i.within;
               bounds = omega (arith, f.paid, f.small, bounds, q.count);
               ties = put_ties (Ties worth h) (Ties worth (e ∷ h)) account n s.records r same b.found
-                  (held_tie _ _ _ _ _ _ (r.held - p.used) (s.closed + 1) r (omega (arith, f.tie.holds, f.inside)) f.tie)
+                  (held_tie _ _ _ _ _ _ (r.held - p.used) (s.closed + 1) r (λ o. omega (arith, o.holds, f.inside)) (λ _. f.tie))
                   (λ a o other t. let none : of_account a account p.used ≡ 0 = cond-false _ _ _ other in tied_same _ _ _ (used_by a h) _ _ _ o refl refl (omega arith) t)
                   i.ties;
               law = record {
@@ -179,7 +179,7 @@ module _ {M : Type 0} (worth : M → ℕ → ℕ → ℕ) where
               readings = omega (arith, sum_by-cons {X = Event M}, i.readings);
               within = i.within;
               bounds = omega (arith, f.paid, f.small, bounds, q.count);
-              ties = put_ties (Ties worth h) (Ties worth (e ∷ h)) account n s.records r same b.found tt
+              ties = put_ties (Ties worth h) (Ties worth (e ∷ h)) account n s.records r same b.found (λ closed. cc)
                   (λ a o other t. let none : of_account a account p.used ≡ 0 = cond-false _ _ _ other in tied_same _ _ _ (used_by a h) _ _ _ o (cond-false _ _ _ other) refl (omega arith) t)
                   i.ties;
               law = record {

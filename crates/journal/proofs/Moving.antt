@@ -105,7 +105,7 @@ module _ {M : Type 0} (worth : M → ℕ → ℕ → ℕ) where
       let whole = put_sum (λ r. r.percentage) account n s.records r same e in
       let size = put_length n s.records in
       let own : history.of_account account account units ≡ units = cond-true _ _ _ (eq-eqb account account refl) in
-      let tie : Ties worth (history.disbursed account units (s.bank - units) ∷ h) account (Some n) = held_tie _ _ _ _ _ _ (r.held + units) r.last r (omega (arith, t.holds)) t in
+      let tie : Ties worth (history.disbursed account units (s.bank - units) ∷ h) account (Some n) = held_tie _ _ _ _ _ _ (r.held + units) r.last r (λ o. omega (arith, o.holds)) (λ _. t) in
       record {
         event = history.disbursed account units (s.bank - units);
         called = refl;

@@ -12,6 +12,7 @@ use std::alloc::{AllocError, Global};
 
 const MAX_REMARK: usize = 79;
 
+#[tactic(auto, using(crate::proofs::Packs::pairs_more, crate::proofs::Packs::left_more, crate::proofs::Packs::remark_short), unfolding(crate::specs::Packing::pairs))]
 fn push_pairs(file: &mut Vec<u8>, entries: &[Entry]) -> Result<(), AllocError>
     requires { 2 + 6 * length entries.now + length (flat_map text (map item entries.now)) < 65536 }
     ensures { OnOk result (file.new.items ≡ file.old.items ++ pairs (2 + 6 * length entries.now) (map item entries.now)) }
@@ -26,6 +27,7 @@ fn push_pairs(file: &mut Vec<u8>, entries: &[Entry]) -> Result<(), AllocError>
     Ok(())
 }
 
+#[tactic(auto, using(crate::proofs::Packs::texts_more))]
 fn push_texts(file: &mut Vec<u8>, entries: &[Entry]) -> Result<(), AllocError>
     requires { All (λ (e : Entry). IsTrue (holds e.line)) entries.now }
     ensures { OnOk result (file.new.items ≡ file.old.items ++ flat_map text (map item entries.now)) }

@@ -23,6 +23,7 @@ fn form_text(line: &Line, heap: Global) -> Result<String, AllocError>
 }
 
 // The fields, and behind them a space and the remark unless it is empty.
+#[tactic(auto, using(crate::proofs::Texts::behind_none, crate::proofs::Texts::behind_some), unfolding(crate::specs::Packing::text))]
 pub fn push_text(file: &mut Vec<u8>, entry: &Entry) -> Result<(), AllocError>
     requires { IsTrue (holds entry.now.line) }
     ensures { OnOk result (file.new.items ≡ file.old.items ++ text (item entry.now)) }
@@ -46,6 +47,7 @@ pub fn numbers_fit(line: &Line) -> bool
         && line.class < 100
 }
 
+#[tactic(auto, using(crate::proofs::Texts::length_text, crate::proofs::Texts::behind_none, crate::proofs::Texts::behind_some))]
 pub fn text_length(entry: &Entry) -> usize
     requires { length entry.now.remark.now < 65536 }
     ensures { result ≡ length (text (item entry.now)) }

@@ -23,10 +23,6 @@ pairs_all file start place n l = let left : n - place ≡ 0 = omega arith in rw 
 pub fits_placed : (size start : ℕ) (p : Pair) → fits size start p ≡ true → Placed size p
 fits_placed size start p h = record { long = grind (arith, nat_tests); inside = grind (arith, nat_tests) }
 
--- an impossible answer
-pub no_fault : {A E : Type 0} (a : A) (e : E) → ◌≡◌ {A = Result A E} (Err e) (Ok a) → ⊥
-no_fault a e h = cc
-
 -- where no pair is at fault, each fits the file
 pub pairs_placed : (file : List ℕ) (start a n place : ℕ) → pairs_from file start a n ≡ Ok tt → a ≤ place → place < a + n → Placed (length file) (pair_at file place)
 unfolding pairs_from

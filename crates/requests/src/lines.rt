@@ -28,6 +28,7 @@ impl<'a> PairedFile<'a> {
     }
 
     // Judges the lines in their order.
+    #[tactic(auto, using(crate::proofs::Judged::lines_step, crate::proofs::Judged::lines_all))]
     pub fn check(&self) -> Result<(), LineFault>
         ensures { result ≡ checked (lines_from self.now.file.now 0 self.now.lines) }
     {

@@ -13,6 +13,7 @@ pub struct Pair {
 }
 
 // How many lines a file of a possible length has.
+#[tactic(auto, unfolding(crate::specs::Meaning::count))]
 pub fn line_count(file: &[u8]) -> Result<usize, RequestRefusal>
     ensures { result ≡ count file.now }
 {
@@ -62,6 +63,7 @@ impl Pair {
 }
 
 // Judges the pairs in their order: each starts at or past the end of the one ahead.
+#[tactic(auto, using(crate::proofs::Judged::pairs_step, crate::proofs::Judged::pairs_all))]
 pub fn check_pairs(file: &[u8], lines: usize) -> Result<(), PairFault>
     requires { 2 + 6 * lines ≤ length file.now }
     ensures { result ≡ pairs_from file.now (2 + 6 * lines) 0 lines }

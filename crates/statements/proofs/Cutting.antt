@@ -1,51 +1,35 @@
 -- A line's first word and what is left behind it.
-use Rattle.std.proofs.Common.{◌≡◌, ℕ, ◌+◌, ◌<◌, Bool, true, false, not, List, [], ◌∷◌, ◌++◌, length, take, drop, sym, refl, ap, ◌∙◌, append_assoc, append-nil, one-add, arith}
+use Rattle.std.proofs.Common.{◌≡◌, ℕ, ◌+◌, ◌<◌, true, false, List, [], ◌∷◌, ◌++◌, length, take, drop, sym, refl, ap, ◌∙◌, append_assoc, append-nil, one-add, arith}
 use Rattle.std.proofs.lemmas.List.{take_rest}
-use Rattle.std.proofs.lemmas.Bool.{cond-true, cond-false, cond_both, not_from_false}
 use Rattle.std.proofs.lemmas.List.Folds.{length-prefix_len}
 use Rattle.std.specs.List.{prefix_len}
-use Rattle.statements.specs.Words.{is_space, in_run, closed, words_from, words}
+use Rattle.statements.specs.Words.{in_run, closed, words_from, words}
+
+drop_next : (n b : ℕ) (bs : List ℕ) → drop (1 + n) (b ∷ bs) ≡ drop n bs
+drop_next n b bs = rw one-add refl
+
+take_next : (n b : ℕ) (bs : List ℕ) → take (1 + n) (b ∷ bs) ≡ b ∷ take n bs
+take_next n b bs = rw one-add refl
 
 -- spaces ahead of the first word do not matter
 pub skip : (bs : List ℕ) → words (drop (prefix_len (in_run true) bs) bs) ≡ words bs
 unfolding words_from
 skip [] = refl
-skip (b ∷ bs) =
-    cond_both (is_space b) (1 + prefix_len (in_run true) bs) 0 (λ k. words (drop k (b ∷ bs)) ≡ words (b ∷ bs))
-    (λ e. rw one-add (skip bs ∙ sym (cond-true (is_space b) (words_from [] bs) (words_from (b ∷ []) bs) e)))
-    (λ e. refl)
+skip (b ∷ bs) = grind (arith, skip bs, drop_next)
 
 -- a word goes on to the next space
 pub gather : (w bs : List ℕ) → words_from w bs ≡ closed (w ++ take (prefix_len (in_run false) bs) bs) (words (drop (prefix_len (in_run false) bs) bs))
 unfolding words_from
 gather w [] = ap (λ x. closed x []) (sym (append-nil w))
-gather w (b ∷ bs) =
-    let ih = gather (w ++ b ∷ []) bs in
-    let run : Bool = not (is_space b) in
-    cond_both run (1 + prefix_len (in_run false) bs) 0 (λ k. words_from w (b ∷ bs) ≡ closed (w ++ take k (b ∷ bs)) (words (drop k (b ∷ bs))))
-    (λ e. rw one-add (cond-false (is_space b) (closed w (words_from [] bs)) (words_from (w ++ b ∷ []) bs) (outside (is_space b) e) ∙ simp append_assoc at ih))
-    (λ e. cond-true (is_space b) (closed w (words_from [] bs)) (words_from (w ++ b ∷ []) bs) (inside (is_space b) e) ∙ rw append-nil (ap (closed w) (sym (cond-true (is_space b) (words_from [] bs) (words_from (b ∷ []) bs) (inside (is_space b) e)))))
-  where
-    outside : (t : Bool) → not t ≡ true → t ≡ false
-    outside t e = grind arith
-
-    inside : (t : Bool) → not t ≡ false → t ≡ true
-    inside t e = grind arith
+gather w (b ∷ bs) = grind (arith, gather (w ++ b ∷ []) bs, append_assoc, append-nil, drop_next, take_next)
 
 -- behind the spaces a word begins, or the line ends
 pub begins : (bs : List ℕ) → prefix_len (in_run false) (drop (prefix_len (in_run true) bs) bs) ≡ 0 → drop (prefix_len (in_run true) bs) bs ≡ []
 begins [] = λ h. refl
-begins (b ∷ bs) =
-    cond_both (is_space b) (1 + prefix_len (in_run true) bs) 0 (λ k. prefix_len (in_run false) (drop k (b ∷ bs)) ≡ 0 → drop k (b ∷ bs) ≡ [])
-    (λ e. rw one-add (begins bs))
-    (λ e h. absurd (some e h))
-  where
-    some : is_space b ≡ false → prefix_len (in_run false) (b ∷ bs) ≡ 0 → ⊥
-    some e h = let k = cond-true (not (is_space b)) (1 + prefix_len (in_run false) bs) 0 (not_from_false (is_space b) e) in omega arith
+begins (b ∷ bs) = λ h. grind (arith, begins bs, drop_next)
 
 pub closed_some : (w : List ℕ) (ws : List (List ℕ)) → 0 < length w → closed w ws ≡ w ∷ ws
-closed_some [] ws h = absurd (omega arith)
-closed_some (b ∷ w) ws h = refl
+closed_some w ws h = grind arith
 
 -- what is left behind the spaces, and the word at its front
 abbrev pub front : List ℕ → List ℕ

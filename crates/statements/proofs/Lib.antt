@@ -5,3 +5,4 @@ pub mod Saying
 pub mod Again
 pub mod Rewriting
 pub mod Packing
+pub mod Cells

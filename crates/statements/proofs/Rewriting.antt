@@ -1,19 +1,11 @@
 -- The text of a statement is read as the statement.
-use Rattle.std.proofs.Common.{◌≡◌, ℕ, suc, ◌^◌, ◌<◌, ◌≤◌, Bool, true, List, [], ◌∷◌, ◌++◌, map, get_or, Some, Ok, IsUtf8, codes, decimal, string_bytes, IfOk, Result, String, Global, sym, ap, ◌∙◌, append_assoc, append-nil, arith}
+use Rattle.std.proofs.Common.{◌≡◌, ℕ, suc, ◌^◌, ◌<◌, ◌≤◌, true, List, [], ◌∷◌, ◌++◌, map, get_or, Some, Ok, IsUtf8, codes, decimal, string_bytes, IfOk, Result, String, Global, sym, ap, ◌∙◌, append_assoc, append-nil, arith}
 use Rattle.std.proofs.lemmas.Result.{IfOk-weaker}
 use Rattle.std.specs.List.{flat_map, AllByRecursion}
-use Rattle.std.specs.Option.{ok_or}
 use Rattle.std.specs.declared.alloc.AllocError.{AllocError}
 use Rattle.accounts.specs.Marks.{size_text, kind_text}
-use Rattle.accounts.specs.declared.record.Line.{Line}
-use Rattle.accounts.specs.declared.record.Size.{Size}
-use Rattle.accounts.specs.declared.record.Kind.{Kind}
 use Rattle.statements.specs.declared.statement.BookKind.TheVariants.{Table, Image}
-use Rattle.statements.specs.declared.statement.Expected.TheVariants.{Rate}
-use Rattle.statements.specs.declared.statement.MethodName.{MethodName}
-use Rattle.statements.specs.declared.statement.ParseError.TheVariants.{Expected as expected}
-use Rattle.statements.specs.Results.{and_then}
-use Rattle.statements.specs.Fields.{most8, most16, most32, most64, rates_from}
+use Rattle.statements.specs.Fields.{most32, rates_from}
 use Rattle.statements.specs.Meanings.{
   Meaning,
   a_method,
@@ -32,8 +24,7 @@ use Rattle.statements.specs.Meanings.{
   statement_of,
   words_say,
 }
-use Rattle.statements.specs.Numbers.{number_of}
-use Rattle.statements.specs.Texts.{text_of, method_text, project_text, rate_text, is_word, readable, Written}
+use Rattle.statements.specs.Texts.{text_of, method_text, project_text, rate_text, readable, Written}
 use Rattle.statements.proofs.Again.{joined, AreWords, words_joined, decimal_word, number_decimal}
 use Rattle.statements.proofs.Listing.{text_is}
 
@@ -92,41 +83,18 @@ rates_again : (acc rs : List ℕ) → AllByRecursion (λ r. r ≤ most32) rs →
 unfolding rates_from
 rates_again acc [] e = ap Ok (sym (append-nil acc))
 rates_again acc (r ∷ rs) e =
-    ap (λ o. and_then (ok_or o (expected Rate)) λ n. rates_from (acc ++ n ∷ []) (map decimal rs)) (number_decimal most32 r (omega (arith, e.0)) e.0)
-    ∙ rates_again (acc ++ r ∷ []) rs e.1
-    ∙ ap Ok (append_assoc acc (r ∷ []) rs)
+    grind (arith, number_decimal most32 r (omega (arith, e.0)) e.0, rates_again (acc ++ r ∷ []) rs e.1, append_assoc)
 
 -- the words of the text
 text_joined : (m : Meaning) → text_of m ≡ joined (words_of m)
 text_joined m = grind (arith, rates_here)
 
-method_word : (name : MethodName) → is_word (method_text name) ≡ true
-method_word name = grind arith
-
-project_word : (farm : Bool) → is_word (project_text farm) ≡ true
-project_word farm = grind arith
-
-size_word : (size : Size) → is_word (size_text size) ≡ true
-size_word size = grind arith
-
-kind_word : (kind : Kind) → is_word (kind_text kind) ≡ true
-kind_word kind = grind arith
-
 are_words : (m : Meaning) → Fitting m → readable m ≡ true → AreWords (words_of m)
-are_words m f r = grind (arith, decimal_word, rate_words, method_word, project_word, size_word, kind_word)
+are_words m f r = grind (arith, decimal_word, rate_words)
 
 -- what the words say
-method_said : (name : MethodName) → words_say (words_of (a_method name)) ≡ Ok (Some (a_method name))
-method_said name = grind arith
-
-project_said : (n : ℕ) (farm : Bool) → number_of most32 (decimal n) ≡ Some n → words_say (codes "open" ∷ decimal n ∷ project_text farm ∷ []) ≡ Ok (Some (an_opening (record { smallest = n; farm = farm })))
-project_said n farm e = grind (arith, e)
-
-line_said : (l : Line) (size : Size) (kind : Kind) → number_of most64 (decimal l.account) ≡ Some l.account → number_of most32 (decimal l.percentage) ≡ Some l.percentage → number_of most16 (decimal l.savings) ≡ Some l.savings → number_of most8 (decimal l.class) ≡ Some l.class → words_say (words_of (a_line (record l { size = size; kind = kind }))) ≡ Ok (Some (a_line (record l { size = size; kind = kind })))
-line_said l size kind a p s k = grind (arith, a, p, s, k)
-
 said : (m : Meaning) → Fitting m → words_say (words_of m) ≡ Ok (Some m)
-said m f = grind (arith, number_decimal, rates_again, text_is, project_said, line_said)
+said m f = grind (arith, number_decimal, rates_again, text_is)
 
 pub written : (m : Meaning) (bs : List ℕ) → Fitting m → bs ≡ text_of m → Written m bs
 written m bs f e =

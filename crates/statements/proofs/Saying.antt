@@ -1,48 +1,27 @@
 -- A line's first word tells how the others are read.
-use Rattle.std.proofs.Common.{◌≡◌, ℕ, true, false, List, [], ◌∷◌, Some, None, Ok, Err, Option, Result, MatchResult, IsOkAnd, refl, sym, ap, ◌∙◌, arith}
-use Rattle.std.proofs.lemmas.Bool.{cond-false}
+use Rattle.std.proofs.Common.{◌≡◌, ℕ, false, List, ◌∷◌, Some, Ok, Err, Option, Result, MatchResult, IsOkAnd, arith}
 use Rattle.std.specs.Option.{option_map, ok_or}
 use Rattle.statements.specs.declared.keyword.Keyword.{Keyword}
 use Rattle.statements.specs.declared.statement.Expected.TheVariants as what
 use Rattle.statements.specs.declared.statement.ParseError.{ParseError}
-use Rattle.statements.specs.declared.statement.ParseError.TheVariants.{Expected as expected, NoMemory}
+use Rattle.statements.specs.declared.statement.ParseError.TheVariants.{Expected as expected}
 use Rattle.statements.specs.declared.statement.Statement.{Statement}
-use Rattle.statements.specs.Results.{and_then}
 use Rattle.statements.specs.Keywords.{keyword_of}
-use Rattle.statements.specs.Meanings.{meaning, says, says_named, is_remark, words_say, keeps, keeps_named, asks_memory, Told}
+use Rattle.statements.specs.Meanings.{meaning, says, says_named, is_remark, words_say, Told}
 use Rattle.statements.specs.Words.{first, rest}
 
-split : (xs : List (List ℕ)) (w : List ℕ) (ws : List (List ℕ)) → Some w ≡ first xs → ws ≡ rest xs → xs ≡ w ∷ ws
-split [] w ws e k = cc
-split (x ∷ xs) w ws e k = cc
+pub split : (xs : List (List ℕ)) (w : List ℕ) (ws : List (List ℕ)) → Some w ≡ first xs → ws ≡ rest xs → xs ≡ w ∷ ws
+split xs w ws e k = grind arith
 
 -- a line that is no remark says what its first word makes of the others
 says_so : (xs : List (List ℕ)) (w : List ℕ) (ws : List (List ℕ)) (k : Option Keyword) → Some w ≡ first xs → ws ≡ rest xs → is_remark w ≡ false → keyword_of w ≡ k → words_say xs ≡ says_named k ws
-says_so xs w ws k head tail plain named =
-    ap words_say (split xs w ws head tail) ∙ cond-false (is_remark w) (Ok None) (says_named (keyword_of w) ws) plain ∙ ap (λ o. says_named o ws) named
+says_so xs w ws k head tail plain named = grind (arith, split xs w ws head tail)
 
 some_so : {X E : Type 0} (o : Option X) (x : X) (e : E) → Ok x ≡ ok_or o e → o ≡ Some x
 some_so o x e h = grind arith
 
-none_so : {X E : Type 0} (o : Option X) (d e : E) → Err d ≡ ok_or o e → (o ≡ None) × (d ≡ e)
-none_so None d e h = (refl, cc)
-none_so (Some x) d e h = cc
-
--- no statement has this first word
-pub unnamed : (xs : List (List ℕ)) (w : List ℕ) (ws : List (List ℕ)) (e : ParseError) → Some w ≡ first xs → ws ≡ rest xs → is_remark w ≡ false → Err e ≡ ok_or (keyword_of w) (expected what.Statement) → Told (option_map meaning) (words_say xs) (Err e)
-unnamed xs w ws e head tail plain named =
-    let n = none_so (keyword_of w) e (expected what.Statement) named in
-    rw n.1 (says_so xs w ws None head tail plain n.0)
-
 pub told : (xs : List (List ℕ)) (w : List ℕ) (ws : List (List ℕ)) (k : Keyword) → Some w ≡ first xs → ws ≡ rest xs → is_remark w ≡ false → Ok k ≡ ok_or (keyword_of w) (expected what.Statement) → (r : Result Statement ParseError) → Told meaning (says k ws) r → (q : Result (Option Statement) ParseError) → MatchResult r (λ s. IsOkAnd q (λ o. o ≡ Some s)) (λ e. q ≡ Err e) → Told (option_map meaning) (words_say xs) q
-told xs w ws k head tail plain named (Ok s) t (Ok o) m =
-    says_so xs w ws (Some k) head tail plain (some_so _ _ _ named) ∙ ap (λ r. and_then r λ m. Ok (Some m)) t ∙ ap (λ x. Ok (option_map meaning x)) (sym m)
-told xs w ws k head tail plain named (Ok s) t (Err e) m = absurd m
-told xs w ws k head tail plain named (Err (expected what)) t q m =
-    rw m (says_so xs w ws (Some k) head tail plain (some_so _ _ _ named) ∙ ap (λ r. and_then r λ m. Ok (Some m)) t)
-told xs w ws k head tail plain named (Err NoMemory) t q m = rw m tt
+told xs w ws k head tail plain named r t q m =
+    grind (arith, says_so xs w ws (Some k) head tail plain (some_so _ _ _ named))
 
-pub asks : (xs : List (List ℕ)) (w : List ℕ) (ws : List (List ℕ)) (k : Keyword) → Some w ≡ first xs → ws ≡ rest xs → keyword_of w ≡ Some k → keeps k ≡ true → asks_memory xs ≡ true
-asks xs w ws k head tail named e = ap asks_memory (split xs w ws head tail) ∙ ap keeps_named named ∙ e
-
-pub ruleset saying = (told, unnamed, asks)
+pub ruleset saying = (split, told)

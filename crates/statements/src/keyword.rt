@@ -29,6 +29,7 @@ impl TryFrom<&[u8]> for Keyword {
 
     ghost try_from_gives = { λ word r. r ≡ ok_or (keyword_of word.now) (expected Statement) };
 
+    #[tactic(auto, using(crate::proofs::Cells::cells))]
     fn try_from(word: &[u8]) -> Result<Keyword, ParseError> {
         match word {
             b"method" => Ok(Keyword::Method),

@@ -100,7 +100,7 @@ fn read_account_and(line: &mut Reader, what: Expected) -> Result<(u64, u64), Par
     Ok((account, n))
 }
 
-#[tactic(auto, using(crate::proofs::Listing::rates))]
+#[tactic(auto, unfolding(crate::specs::Fields::rates_from))]
 fn read_rates(line: &mut Reader, heap: Global) -> Result<Vec<u32>, ParseError>
     ensures { Told (λ rates. rates.items) (rates_from [] (words line.old.left.now)) result }
 {
