@@ -3,7 +3,7 @@ use Rattle.std.proofs.Common.{◌≡◌, ℕ, zero, suc, ◌+◌, ◌<◌, ◌�
 use Rattle.std.proofs.lemmas.List.{length_push, map_push, get_or_append_left, get_or_at}
 use Rattle.std.proofs.lemmas.List.FromFn.{map-range_with_len_more}
 use Rattle.std.proofs.lemmas.Simd.{map-map}
-use Rattle.std.proofs.lemmas.Option.{slice_get-get_or}
+use Rattle.std.proofs.lemmas.Option.{none-some, slice_get-get_or}
 use Rattle.std.proofs.lemmas.Bool.{cond_both, cond-true, cond-false, cases_eq}
 use Rattle.std.proofs.lemmas.Bool.Decides.{nat_tests}
 use Rattle.std.specs.List.{slice_get, range_with_len, position}
@@ -21,7 +21,7 @@ use Rattle.image_book.specs.Reading.{Legible}
 use Rattle.image_book.proofs.Slots.{first_slots}
 
 pub some_of : {X : Type 0} (o : Option X) → is_some o ≡ true → (x : X) × (o ≡ Some x)
-some_of None h = let z : ◌≡◌ {A = ℕ} 0 1 = cc in absurd (omega arith)
+some_of None h = grind arith
 some_of (Some x) h = (x, refl)
 
 -- an account that is added last to a list with no account twice was new
@@ -40,7 +40,7 @@ distinct_last b (x ∷ xs) h =
     grind (arith, nat_tests)
 
 legible_of : (earlier : List ℕ) (o : Option Record) → unfit_after earlier o ≡ false → is_some o ≡ true
-legible_of earlier None h = let z : ◌≡◌ {A = ℕ} 0 1 = cc in absurd (omega arith)
+legible_of earlier None h = grind arith
 legible_of earlier (Some r) h = refl
 
 module _ (bs : List ℕ) where
@@ -152,7 +152,7 @@ module _ (bs : List ℕ) where
   none_fit zero i e j h l = absurd (omega arith)
   none_fit (suc k) i e j h l =
       cond_both (unfit i bs) (Some i) (first_unfit k (i + 1) bs) (λ o. o ≡ None → unfit j bs ≡ false)
-      (λ _ f. let z : ◌≡◌ {A = ℕ} 0 1 = cc in absurd (omega arith))
+      (λ _ f. absurd (none-some i (sym f)))
       (λ u f. ⊎_elim (λ q. ap (λ m. unfit m bs) (sym q) ∙ u) (λ q. none_fit k (i + 1) f j (omega arith) (omega arith)) (cases_eq i j))
       e
 
