@@ -79,9 +79,6 @@ module _ (bs : List ℕ) where
   pub legible_opened : (n : ℕ) → n ≡ opened_count bs → Legible n bs × (n ≤ capacity_of bs)
   legible_opened n a = legible_by (open_refusal bs) refl n a
 
-  pub room_within : opened_room bs ≤ capacity_of bs
-  room_within = cond_both (is_some (open_refusal bs)) 0 (capacity_of bs) (λ k. k ≤ capacity_of bs) (λ _. omega arith) (λ _. omega arith)
-
 -- what a check before a start answers
 told_err : (r : Result (Unit {0}) ImageRefusal) → is_err r ≡ is_some (told r)
 told_err (Ok x) = refl
@@ -97,12 +94,6 @@ module _ (bs : List ℕ) where
   proper_none : Proper (held 0 bs) 0
   unfolding held
   proper_none = record { ranged = refl; apart = refl; fits = omega arith; bounded = omega arith }
-
-  -- a book whose image is opened again comes back
-  pub comes_back : (n room : ℕ) → n ≡ opened_count bs → room ≡ opened_room bs → ComesBack bs n room
-  comes_back n room a c b s e =
-      let k : b.count ≡ n = s.same_count ∙ (ap opened_count e ∙ sym a) in
-      (ap (held b.count) e ∙ ap (λ m. held m bs) k, s.same_room ∙ (ap opened_room e ∙ sym c))
 
   pub reads_open : (n room : ℕ) → Open bs n room → Reads bs n room
   reads_open n room o = record {
