@@ -144,9 +144,7 @@ module _ (bs : List ℕ) where
 
   pub fit_none : (k i : ℕ) → ((j : ℕ) → i ≤ j → j < i + k → unfit j bs ≡ false) → first_unfit k i bs ≡ None
   fit_none zero i f = refl
-  fit_none (suc k) i f =
-      cond-false (unfit i bs) (Some i) (first_unfit k (i + 1) bs) (f i (omega arith) (omega arith))
-      ∙ fit_none k (i + 1) (λ j h l. f j (omega arith) (omega arith))
+  fit_none (suc k) i f = rw (f i (omega arith) (omega arith)) (fit_none k (i + 1) (λ j h l. f j (omega arith) (omega arith)))
 
   pub none_fit : (k i : ℕ) → first_unfit k i bs ≡ None → (j : ℕ) → i ≤ j → j < i + k → unfit j bs ≡ false
   none_fit zero i e j h l = absurd (omega arith)
@@ -160,11 +158,10 @@ module _ (bs : List ℕ) where
   fit_some zero i m h f u = absurd (omega arith)
   fit_some (suc k) i zero h f u =
       let e : i + 0 ≡ i = omega arith in
-      cond-true (unfit i bs) (Some i) (first_unfit k (i + 1) bs) (ap (λ j. unfit j bs) (sym e) ∙ u) ∙ ap Some (sym e)
+      rw e (rw (subst (λ j. unfit j bs ≡ true) e u) refl)
   fit_some (suc k) i (suc m) h f u =
       let e : i + suc m ≡ i + 1 + m = omega arith in
-      cond-false (unfit i bs) (Some i) (first_unfit k (i + 1) bs) (f i (omega arith) (omega arith))
-      ∙ (fit_some k (i + 1) m (omega arith) (λ j p q. f j (omega arith) (omega arith)) (ap (λ j. unfit j bs) (sym e) ∙ u) ∙ ap Some (sym e))
+      rw (f i (omega arith) (omega arith), e) (fit_some k (i + 1) m (omega arith) (λ j p q. f j (omega arith) (omega arith)) (subst (λ j. unfit j bs ≡ true) e u))
 
   -- what is judged of a place whose earlier places are legible
   abbrev pub Judged : ℕ → Bool → Type 0
