@@ -1,5 +1,5 @@
 -- Where an account stands in a list of accounts.
-use Rattle.std.proofs.Common.{◌≡◌, ℕ, ◌+◌, true, false, cond, ◌||◌, eqb, List, [], ◌∷◌, ◌++◌, map, is_some, Some, refl, ap, ◌∙◌, arith}
+use Rattle.std.proofs.Common.{◌≡◌, ℕ, ◌+◌, true, false, cond, not, ◌&&◌, ◌||◌, eqb, List, [], ◌∷◌, ◌++◌, map, is_some, Some, refl, ap, ◌∙◌, arith}
 use Rattle.std.proofs.lemmas.Bool.Decides.{nat_tests}
 use Rattle.std.proofs.lemmas.Iterator.Adapters.{position_from-zero}
 use Rattle.std.specs.List.{position, position_from}
@@ -22,9 +22,12 @@ pub present_push : (a b : ℕ) (xs : List ℕ) → present a (xs ++ b ∷ []) �
 present_push a b [] = grind (arith, nat_tests)
 present_push a b (x ∷ xs) = let ih = present_push a b xs in grind (arith, nat_tests)
 
-pub distinct_push : (b : ℕ) (xs : List ℕ) → distinct xs ≡ true → present b xs ≡ false → distinct (xs ++ b ∷ []) ≡ true
-distinct_push b [] h p = refl
-distinct_push b (x ∷ xs) h p =
+pub distinct_more : (b : ℕ) (xs : List ℕ) → distinct (xs ++ b ∷ []) ≡ (distinct xs && not (present b xs))
+distinct_more b [] = refl
+distinct_more b (x ∷ xs) =
     let e = present_push x b xs in
-    let ih = distinct_push b xs in
+    let ih = distinct_more b xs in
     grind (arith, nat_tests)
+
+pub distinct_push : (b : ℕ) (xs : List ℕ) → distinct xs ≡ true → present b xs ≡ false → distinct (xs ++ b ∷ []) ≡ true
+distinct_push b xs h p = let e = distinct_more b xs in grind (arith, nat_tests)

@@ -6,7 +6,6 @@ use Rattle.accounts.specs.Books.{accounts, distinct, Proper}
 use Rattle.image_book.specs.Images.{count_in, capacity_of, held}
 use Rattle.image_book.specs.Refusals.{told, lacks_room, start_refusal, unfit, first_unfit, seventh, open_refusal}
 use Rattle.image_book.specs.Reading.{Legible, opened_count, opened_room, Reads}
-use Rattle.image_book.specs.Holding.{ComesBack}
 use Rattle.image_book.specs.declared.checks.ImageRefusal.{ImageRefusal}
 use Rattle.image_book.proofs.Places.{length_held, every_held, distinct_fit, legible_fit, fit_each, fit_none, none_fit}
 use Rattle.image_book.proofs.Judging.{judged, room_parts, room_from}

@@ -54,19 +54,7 @@ pub decoded_holds : (bs : List ℕ) (r : Record) → Holds bs r → decoded bs �
 unfolding fields_in
 decoded_holds bs r h =
     let t = and_from (eqb (length bs) 36) (bytes_eq (part 30 6 bs) (replicate 6 0)) (eq-eqb (length bs) 36 h.bytes) ((bytes_eq-Decides (part 30 6 bs) (replicate 6 0)).1 h.filler) in
-    let z = h.size in
-    let k = h.kind in
-    let s = h.state in
-    let m : marked (size_of (get_or bs 15 0)) (kind_of (get_or bs 16 0)) (state_of (get_or bs 17 0)) bs ≡ ranged (fields r.size r.kind r.state bs) = rw (z, k, s) in
-    let a = h.account in
-    let p = h.percentage in
-    let v = h.savings in
-    let c = h.class in
-    let u = h.held in
-    let l = h.last in
-    let f : fields r.size r.kind r.state bs ≡ r = rw (a, p, v, c, u, l) in
-    cond-true (framed bs) (marked (size_of (get_or bs 15 0)) (kind_of (get_or bs 16 0)) (state_of (get_or bs 17 0)) bs) None t
-    ∙ (m ∙ ap ranged f)
+    cond-true (framed bs) _ None t ∙ rw (h.size, h.kind, h.state, h.account, h.percentage, h.savings, h.class, h.held, h.last) refl
 
 size_letter_of : (b : ℕ) (z : Size) → size_of b ≡ Some z → size_letter z ≡ b
 size_letter_of b Small h = grind (arith, nat_tests)
