@@ -1,11 +1,12 @@
 -- What a bill comes to: its credit is by the rule, and net credit and fee are the applied credit.
 use Rattle.std.proofs.Common.{◌≡◌, ℕ, zero, suc, ◌+◌, ◌<◌, ◌≤◌, min, true, leb, refl, ⊎_elim, arith}
 use native.Mathlib.Nat.{min-le_right}
-use Rattle.std.proofs.lemmas.Bool.{and_from, cases_lt, cond_both, cond-true, le-leb, leb-true, leb-false}
+use Rattle.std.proofs.lemmas.Bool.{cases_lt, cond_both, cond-true, leb-true, leb-false}
+use Rattle.std.proofs.lemmas.Bool.Decides.{nat_tests}
 use Rattle.accounts.specs.declared.record.Kind.{Kind}
 use Rattle.accounts.specs.declared.record.Kind.TheVariants.{Member, Anchor}
 use Rattle.crediting.specs.Credits.{Credited, Lawful, applied_credit, smallest, units_used}
-use Rattle.crediting.specs.Ranges.{has_worth, in_ranges, is_class}
+use Rattle.crediting.specs.Ranges.{in_ranges, is_class}
 use Rattle.ledger.specs.Rules.{counted, net_credit, subscription_fee}
 use Rattle.ledger.proofs.Fees.{net_within}
 
@@ -31,8 +32,7 @@ smallest_fewest W c (suc n) rises w enough =
 
 -- a class, the units of an account and a bill in range
 pub in_range_all : (k u b : ℕ) → is_class k ≡ true → u ≤ 1_000_000_000_000 → b ≤ 1_000_000_000 → in_ranges k u b ≡ true
-in_range_all k u b class held bill =
-    and_from (has_worth k u) _ (and_from (is_class k) _ class (le-leb u _ held)) (le-leb b _ bill)
+in_range_all k u b class held bill = grind (arith, nat_tests)
 
 -- by a lawful worth, what is answered meets the rule
 pub credited : (W : ℕ → ℕ → ℕ) (k u b : ℕ) → Lawful (W k) → u ≤ 1_000_000_000_000 → in_ranges k u b ≡ true → Credited (W k) u b (applied_credit W k u b) (units_used W k u b)

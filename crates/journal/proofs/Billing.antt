@@ -69,7 +69,7 @@ module _ {M : Type 0} (worth : M → ℕ → ℕ → ℕ) where
           let few = count_by-le-length (λ (x : Record). eqb x.last (s.closed + 1)) s.records in
           let one = counted_within r.kind (posting (worth m) r cents).applied in
           let own = applied_within (worth m) r.class r.held cents in
-          omega (arith, bounds.small, i.fits, i.few)
+          omega arith
 
       go : (o : Option Record) → record_of account s.records ≡ o → cents ≤ 1_000_000_000 → P (judge_record (worth m) period applied cents o)
       go None e small = no-bill why.NoOpenAccount (omega arith)
@@ -91,8 +91,8 @@ module _ {M : Type 0} (worth : M → ℕ → ℕ → ℕ) where
   posted lawful h s m account cents r i b =
       let t = found_tie _ _ _ _ _ r b.found b.unclosed (i.ties account) in
       let most = found_within (λ r. r.held) account s.records r b.found in
-      let top : r.held ≤ 1_000_000_000_000 = omega (arith, i.law.units, i.readings, i.within) in
-      let had : r.held ≡ given account h - used_by account h = omega (arith, t.holds) in
+      let top : r.held ≤ 1_000_000_000_000 = omega arith in
+      let had : r.held ≡ given account h - used_by account h = omega arith in
       let c = credited (worth m) r.class r.held cents (lawful m r.class t.is) top (in_range_all r.class r.held cents t.is top b.small) in
       let p : Posting = posting (worth m) r cents in
       let own = applied_within (worth m) r.class r.held cents in
@@ -100,14 +100,14 @@ module _ {M : Type 0} (worth : M → ℕ → ℕ → ℕ) where
       record {
         tie = t;
         rule = record {
-          covered = omega (arith, t.holds);
+          covered = omega arith;
           within = omega arith;
           credit = subst₂ (λ k u. Credited (worth m k) u cents p.applied p.used) t.classed had c;
         };
         inside = used_within (worth m) r.class r.held cents;
         split = net_and_fee r.kind r.savings p.applied t.low;
         paid = fee_covers r.kind r.savings p.applied t.low;
-        small = omega (arith, b.small);
+        small = omega arith;
       }
 
   pub keeps_bill : (lawful : (m : M) (k : ℕ) → is_class k ≡ true → Lawful (worth m k)) (h : History M) (s : State) (m : M) (applied fees account cents : ℕ) → s.phase ≡ InPeriod applied fees → Stands worth h s → Kept worth h (call.Bill m account cents) (bill (worth m) s applied fees account cents)
@@ -133,19 +133,19 @@ module _ {M : Type 0} (worth : M → ℕ → ℕ → ℕ) where
             called = refl;
             answered = refl;
             stands = record {
-              fits = omega (arith, i.fits, q.size);
+              fits = omega arith;
               few = i.few;
-              whole = omega (arith, i.whole, q.whole);
-              readings = omega (arith, sum_by-cons {X = Event M}, i.readings);
+              whole = omega arith;
+              readings = omega (arith, sum_by-cons {X = Event M});
               within = i.within;
-              bounds = omega (arith, f.paid, f.small, bounds, q.count);
+              bounds = omega arith;
               ties = put_ties (Ties worth h) (Ties worth (e ∷ h)) account n s.records r same b.found
-                  (held_tie _ _ _ _ _ _ (r.held - p.used) (s.closed + 1) r (λ o. omega (arith, o.holds, f.inside)) (λ _. f.tie))
+                  (held_tie _ _ _ _ _ _ (r.held - p.used) (s.closed + 1) r (λ o. omega arith) (λ _. f.tie))
                   (λ a o other t. let none : of_account a account p.used ≡ 0 = cond-false _ _ _ other in tied_same _ _ _ (used_by a h) _ _ _ o refl refl (omega arith) t)
                   i.ties;
               law = record {
-                units = omega (arith, sum_by-cons {X = Event M}, i.law.units, f.inside, q.held);
-                cents = omega (arith, sum_by-cons {X = Event M}, i.law.cents, f.split);
+                units = omega (arith, sum_by-cons {X = Event M});
+                cents = omega (arith, sum_by-cons {X = Event M});
                 each = (f.rule, i.law.each);
               };
             };
@@ -173,18 +173,18 @@ module _ {M : Type 0} (worth : M → ℕ → ℕ → ℕ) where
             called = refl;
             answered = refl;
             stands = record {
-              fits = omega (arith, i.fits, q.size);
+              fits = omega arith;
               few = i.few;
-              whole = omega (arith, i.whole, q.whole);
-              readings = omega (arith, sum_by-cons {X = Event M}, i.readings);
+              whole = omega arith;
+              readings = omega (arith, sum_by-cons {X = Event M});
               within = i.within;
-              bounds = omega (arith, f.paid, f.small, bounds, q.count);
+              bounds = omega arith;
               ties = put_ties (Ties worth h) (Ties worth (e ∷ h)) account n s.records r same b.found (λ closed. cc)
                   (λ a o other t. let none : of_account a account p.used ≡ 0 = cond-false _ _ _ other in tied_same _ _ _ (used_by a h) _ _ _ o (cond-false _ _ _ other) refl (omega arith) t)
                   i.ties;
               law = record {
-                units = omega (arith, sum_by-cons {X = Event M}, i.law.units, f.inside, q.held);
-                cents = omega (arith, sum_by-cons {X = Event M}, i.law.cents, f.split);
+                units = omega (arith, sum_by-cons {X = Event M});
+                cents = omega (arith, sum_by-cons {X = Event M});
                 each = (f.rule, i.law.each);
               };
             };

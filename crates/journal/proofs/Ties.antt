@@ -1,11 +1,11 @@
 -- What ties an account's record to what its history says of it.
-use Rattle.std.proofs.Common.{◌≡◌, ℕ, ◌+◌, ◌*◌, ◌≤◌, Bool, true, false, cond, not, eqb, leb, List, [], ◌∷◌, Some, None, Option, option_map, refl, ap, subst, mul-zero, arith}
+use Rattle.std.proofs.Common.{◌≡◌, ℕ, ◌+◌, ◌*◌, ◌≤◌, Bool, true, false, cond, not, eqb, List, [], ◌∷◌, Some, None, Option, option_map, refl, ap, subst, mul-zero, arith}
 use Rattle.std.proofs.lemmas.Bool.{cond_both, eqb-true, not-false}
 use Rattle.std.proofs.lemmas.Bool.Decides.{nat_tests}
 use Rattle.std.specs.List.{position_from}
 use Rattle.accounts.specs.declared.record.Line.{Line}
 use Rattle.accounts.specs.declared.record.Record.{Record}
-use Rattle.accounts.specs.Ranges.{account_in_range, line_in_range, savings_in_range, within}
+use Rattle.accounts.specs.Ranges.{line_in_range}
 use Rattle.crediting.specs.Ranges.{is_class}
 use Rattle.ledger.specs.Records.{allocated, gaining, joining, is_closed, put, record_of, unallocated}
 use Rattle.ledger.specs.Rules.{share}
@@ -69,7 +69,7 @@ gain_tie units p k g u g' None e t =
     record { none = t.none; nothing = omega arith; unused = t.unused }
 gain_tie units p k g u g' (Some r) e t =
     held_tie p k g u g' u (r.held + share units r.percentage) r.last r
-    (λ o. let same : share units r.percentage ≡ share units p = ap (share units) o.allocation in omega (arith, o.holds)) t
+    (λ o. let same : share units r.percentage ≡ share units p = ap (share units) o.allocation in omega arith) t
 
 -- a request without a line of the account
 unallocated_tie : (p k g u : ℕ) (o : Option Record) → Tied p k g u o → Tied 0 k g u (option_map unallocated o)
