@@ -59,10 +59,8 @@ module _ (units percentages shared : ℕ) (rs : List Record) (i : ℕ) where
 not_overfull : (units : ℕ) (rs : List Record) (i : ℕ) (r : Record) → list_any (overfull units) rs ≡ false → slice_get rs i ≡ Some r → overfull units r ≡ false
 not_overfull units rs i r h e =
     let here = get_or_from_slice_get rs i r r e in
-    ⊎_elim
-    (λ (t : overfull units r ≡ true). absurd (both_ways _ h (list_any_at (overfull units) rs i r (slice_get_within rs i r e) (ap (overfull units) here ∙ t))))
-    (λ (f : overfull units r ≡ false). f)
-    (cases_Bool (overfull units r))
+    let any = list_any_at (overfull units) rs i r (slice_get_within rs i r e) in
+    grind arith
 
 pub gains_in_range : (units : ℕ) (rs : List Record) (i : ℕ) (r : Record) → foreign_to_reading units rs ≡ false → slice_get rs i ≡ Some r → in_range r ≡ true → in_range (gaining units r) ≡ true
 gains_in_range units rs i r h e k =
