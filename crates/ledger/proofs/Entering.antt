@@ -1,6 +1,6 @@
 -- What the lines of a request make of the records.
-use Rattle.std.proofs.Common.{◌≡◌, ℕ, zero, suc, ◌+◌, ◌<◌, ◌≤◌, true, false, cond, not, ltb, List, [], ◌∷◌, ◌++◌, map, length, get_or, is_some, Some, None, Option, sym, refl, ap, ◌∙◌, arith, count_by}
-use Rattle.std.proofs.lemmas.Bool.{and_from, and_parts, lt-ltb, not-false}
+use Rattle.std.proofs.Common.{◌≡◌, ℕ, zero, suc, ◌+◌, ◌<◌, ◌≤◌, true, false, cond, not, List, [], ◌∷◌, ◌++◌, map, length, get_or, is_some, Some, None, Option, sym, refl, ap, ◌∙◌, arith, count_by}
+use Rattle.std.proofs.lemmas.Bool.{and_parts}
 use Rattle.std.proofs.lemmas.List.{length_push, map_push}
 use Rattle.std.proofs.lemmas.List.Sums.{sum_by-cons}
 use Rattle.std.proofs.lemmas.Bool.Decides.{nat_tests}
@@ -11,7 +11,7 @@ use Rattle.accounts.specs.declared.record.Line.{Line}
 use Rattle.accounts.specs.declared.record.Record.{Record}
 use Rattle.accounts.specs.Ranges.{in_range, line_in_range}
 use Rattle.ledger.specs.Lines.{joins, new_accounts, enter}
-use Rattle.ledger.proofs.Found.{present_found, accounts_put, put_length, nowhere}
+use Rattle.ledger.proofs.Found.{present_found, accounts_put, put_length}
 use Rattle.ledger.proofs.Scanning.{zero_line}
 use Rattle.ledger.specs.Records.{record_of, unallocated, allocated, joining}
 

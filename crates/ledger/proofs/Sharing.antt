@@ -1,6 +1,6 @@
 -- A loop over the records of a reading.
-use Rattle.std.proofs.Common.{◌≡◌, ℕ, suc, ◌+◌, ◌*◌, ◌<◌, ◌≤◌, Bool, true, false, ◌||◌, ltb, List, ◌∷◌, drop, Some, sym, ap, ◌∙◌, ⊎_elim, subst, add-one, mul-add, arith, sum_by}
-use Rattle.std.proofs.lemmas.Bool.{both_ways, cases_Bool, lt-ltb, or_left, or_right, or_parts}
+use Rattle.std.proofs.Common.{◌≡◌, ℕ, suc, ◌+◌, ◌*◌, ◌<◌, ◌≤◌, Bool, true, false, ltb, List, ◌∷◌, drop, Some, ap, ◌∙◌, subst, add-one, mul-add, arith, sum_by}
+use Rattle.std.proofs.lemmas.Bool.{or_parts}
 use Rattle.std.proofs.lemmas.List.Folds.{list_any_at}
 use Rattle.std.proofs.lemmas.List.Sums.{sum_by-cons}
 use Rattle.std.proofs.lemmas.Option.{get_or_from_slice_get, slice_get_within}
@@ -46,14 +46,17 @@ module _ (units percentages shared : ℕ) (rs : List Record) (i : ℕ) where
       record {
         percents = omega (arith, k.percents);
         gains = omega (arith, k.gains);
-        full = sym (ap (λ b. b || list_any (overfull units) (drop (i + 1) rs)) o) ∙ k.full;
+        full = grind arith;
       }
 
   pub past_whole : (r : Record) → slice_get rs i ≡ Some r → LeftAt → 100000 < percentages + r.percentage → foreign_to_reading units rs ≡ true
-  past_whole r e h o = or_left _ (list_any (overfull units) rs) (lt-ltb 100000 (sum_by (λ (x : Record). x.percentage) rs) (omega (arith, (at_record r e h).percents, sum_by-cons (λ (x : Record). x.percentage) r (drop (i + 1) rs))))
+  past_whole r e h o =
+      let k = at_record r e h in
+      let percents = sum_by-cons (λ (x : Record). x.percentage) r (drop (i + 1) rs) in
+      grind (arith, nat_tests)
 
   pub past_holding : (r : Record) → slice_get rs i ≡ Some r → LeftAt → overfull units r ≡ true → foreign_to_reading units rs ≡ true
-  past_holding r e h o = or_right _ _ (sym (at_record r e h).full ∙ ap (λ b. b || list_any (overfull units) (drop (i + 1) rs)) o)
+  past_holding r e h o = let k = at_record r e h in grind arith
 
 -- where the book is the ledger's own, no account passes what it may hold
 not_overfull : (units : ℕ) (rs : List Record) (i : ℕ) (r : Record) → list_any (overfull units) rs ≡ false → slice_get rs i ≡ Some r → overfull units r ≡ false
