@@ -53,13 +53,11 @@ accepted (Some why) u e = cc
 
 empty : (smallest : ℕ) (rs : List Record) → judge_open smallest (length rs) ≡ None → rs ≡ []
 empty smallest [] e = refl
-empty smallest (r ∷ rs) e = let z : ◌≡◌ {A = ℕ} 0 1 = grind (arith, nat_tests) in absurd (omega arith)
+empty smallest (r ∷ rs) e = grind (arith, nat_tests)
 
 pub ran : {M : Type 0} (worth : M → ℕ → ℕ → ℕ) (lawful : (m : M) (k : ℕ) → is_class k ≡ true → Lawful (worth m k)) (smallest : ℕ) (farm : Bool) (room : ℕ) (rs : List Record) (calls : List (Call M)) (said : List (Result Done Refusal)) (start end : State) → room ≤ 4096 → judge_open smallest (length rs) ≡ None → start ≡ opened smallest farm room rs → end ≡ after worth start calls → said ≡ answers worth start calls → Ran worth (opened smallest farm room rs) calls said end
 ran {M} worth lawful smallest farm room rs calls said start end few judged starts ends says =
     let ended = ends ∙ ap (λ s. after worth s calls) starts in
     let told = says ∙ ap (λ s. answers worth s calls) starts in
     let none = empty smallest rs judged in
-    let P : List Record → Type 0 = λ xs. LawfulRun worth calls (answers worth (opened smallest farm room xs) calls) (after worth (opened smallest farm room xs) calls) in
-    let law : P rs = subst P (sym none) (runs_lawfully worth lawful smallest farm room few calls) in
-    record { performed = ended; answered = told; lawful = rw (ended, told) law }
+    record { performed = ended; answered = told; lawful = rw (ended, told, none) (runs_lawfully worth lawful smallest farm room few calls) }
