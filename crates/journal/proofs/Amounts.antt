@@ -1,11 +1,8 @@
 -- What a bill comes to: its credit is by the rule, and net credit and fee are the applied credit.
-use Rattle.std.proofs.Common.{◌≡◌, ℕ, ◌+◌, ◌≤◌, min, true, arith}
-use Rattle.std.proofs.lemmas.Bool.{cond-true}
+use Rattle.std.proofs.Common.{◌≡◌, ℕ, ◌+◌, ◌≤◌, true, arith}
 use Rattle.std.proofs.lemmas.Bool.Decides.{nat_tests}
 use Rattle.accounts.specs.declared.record.Kind.{Kind}
 use Rattle.accounts.specs.declared.record.Kind.TheVariants.{Member, Anchor}
-use Rattle.crediting.specs.Credits.{Credited, Lawful, applied_credit, smallest, units_used}
-use Rattle.crediting.specs.Fewest as fewest
 use Rattle.crediting.specs.Ranges.{in_ranges, is_class}
 use Rattle.ledger.specs.Rules.{counted, net_credit, subscription_fee}
 use Rattle.ledger.proofs.Fees.{net_within}
@@ -13,13 +10,6 @@ use Rattle.ledger.proofs.Fees.{net_within}
 -- a class, the units of an account and a bill in range
 pub in_range_all : (k u b : ℕ) → is_class k ≡ true → u ≤ 1_000_000_000_000 → b ≤ 1_000_000_000 → in_ranges k u b ≡ true
 in_range_all k u b class held bill = grind (arith, nat_tests)
-
--- by a lawful worth, what is answered meets the rule
-pub credited : (W : ℕ → ℕ → ℕ) (k u b : ℕ) → Lawful (W k) → u ≤ 1_000_000_000_000 → in_ranges k u b ≡ true → Credited (W k) u b (applied_credit W k u b) (units_used W k u b)
-unfolding applied_credit units_used
-credited W k u b law top ok =
-    let c : ℕ = min b (W k u) in
-    rw (cond-true (in_ranges k u b) c 0 ok, cond-true (in_ranges k u b) (smallest (W k) c u) 0 ok) (fewest.credited (W k) u b law top)
 
 -- net credit and fee are the applied credit
 pub net_and_fee : (kind : Kind) (savings c : ℕ) → savings ≤ 9800 → net_credit kind savings c + subscription_fee kind savings c ≡ c

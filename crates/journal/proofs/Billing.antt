@@ -2,7 +2,7 @@
 use Rattle.std.proofs.Common.{◌≡◌, ℕ, ◌+◌, ◌-◌, ◌*◌, ◌≤◌, true, false, cond, eqb, ltb, ◌≢◌, List, ◌∷◌, length, Some, None, Ok, Err, Option, Result, refl, ap, subst₂, arith, sum_by}
 use Rattle.std.proofs.lemmas.Bool.{cond_both, cond-false, cond-true, eq-eqb, le-ltb, ltb-false}
 use Rattle.accounts.specs.declared.record.Record.{Record}
-use Rattle.crediting.specs.Fewest.{used_within}
+use Rattle.crediting.specs.Fewest.{meant}
 use Rattle.crediting.specs.Credits.{Credited, Lawful}
 use Rattle.crediting.specs.Ranges.{is_class}
 use Rattle.ledger.specs.declared.call.Call.TheVariants as call
@@ -20,7 +20,7 @@ use Rattle.journal.specs.Histories.{Event, History, class_of, disbursed_to, give
 use Rattle.ledger.specs.Phases.{fees_in}
 use Rattle.journal.specs.Laws.{BillRule}
 use Rattle.crediting.specs.Fewest.{applied_within}
-use Rattle.journal.proofs.Amounts.{counted_within, credited, in_range_all, net_and_fee}
+use Rattle.journal.proofs.Amounts.{counted_within, in_range_all, net_and_fee}
 use Rattle.ledger.proofs.Fees.{fee_covers}
 use Rattle.ledger.proofs.Found.{found_account, found_within, put_length, put_sum}
 use Rattle.journal.proofs.Standing.{Kept, Stands, Ties, billed_in, bounds_at, keeps_declined}
@@ -93,21 +93,21 @@ module _ {M : Type 0} (worth : M → ℕ → ℕ → ℕ) where
       let most = found_within (λ r. r.held) account s.records r b.found in
       let top : r.held ≤ 1_000_000_000_000 = omega arith in
       let had : r.held ≡ given account h - used_by account h = omega arith in
-      let c = credited (worth m) r.class r.held cents (lawful m r.class t.is) top (in_range_all r.class r.held cents t.is top b.small) in
       let p : Posting = posting (worth m) r cents in
-      let own = applied_within (worth m) r.class r.held cents in
+      let own = meant (worth m) r.class r.held cents p.applied p.used (λ _. lawful m r.class t.is) refl refl in
+      let rule = (own.meaning (in_range_all r.class r.held cents t.is top b.small)).0 in
       let one = counted_within r.kind p.applied in
       record {
         tie = t;
         rule = record {
           covered = omega arith;
           within = omega arith;
-          credit = subst₂ (λ k u. Credited (worth m k) u cents p.applied p.used) t.classed had c;
+          credit = subst₂ (λ k u. Credited (worth m k) u cents p.applied p.used) t.classed had rule;
         };
-        inside = used_within (worth m) r.class r.held cents;
+        inside = own.within.units;
         split = net_and_fee r.kind r.savings p.applied t.low;
         paid = fee_covers r.kind r.savings p.applied t.low;
-        small = omega arith;
+        small = omega (arith, own.within.cents);
       }
 
   pub keeps_bill : (lawful : (m : M) (k : ℕ) → is_class k ≡ true → Lawful (worth m k)) (h : History M) (s : State) (m : M) (applied fees account cents : ℕ) → s.phase ≡ InPeriod applied fees → Stands worth h s → Kept worth h (call.Bill m account cents) (bill (worth m) s applied fees account cents)
