@@ -24,7 +24,7 @@ record RunOn {M : Type 0} (worth : M → ℕ → ℕ → ℕ) (earlier : History
   law : Law worth history s
 
 runs_on : {M : Type 0} (worth : M → ℕ → ℕ → ℕ) (lawful : (m : M) (k : ℕ) → is_class k ≡ true → Lawful (worth m k)) (h : History M) (s : State) → Stands worth h s → (calls : List (Call M)) → RunOn worth h calls (answers worth s calls) (after worth s calls)
-unfolding after answers
+unfolding answers
 runs_on worth lawful h s i [] = record { history = h; calls_told = refl; answers_told = refl; law = i.law }
 runs_on worth lawful h s i (c ∷ cs) =
     let k = keeps_step worth lawful h s i c in

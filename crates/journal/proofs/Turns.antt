@@ -10,7 +10,6 @@ use Rattle.journal.specs.Laws.{after, answers}
 
 module _ {M : Type 0} (worth : M → ℕ → ℕ → ℕ) (calls : List (Call M)) (i : ℕ) where
   pub after_more : (here there : State) (answer : Result Done Refusal) (c : Call M) → i < length calls → c ≡ get_or calls i c → record { state = there; answer = answer } ≡ step worth here c → after worth there (drop (i + 1) calls) ≡ after worth here (drop i calls)
-  unfolding after
   after_more here there answer c h e s =
       let first = at_drop_more (after worth here) calls i c h in
       let left = ap (λ (o : Outcome). o.state) s in
@@ -25,7 +24,6 @@ module _ {M : Type 0} (worth : M → ℕ → ℕ → ℕ) (calls : List (Call M)
       rw append_assoc (cc)
 
   pub after_all : (s : State) → length calls ≤ i → after worth s (drop i calls) ≡ s
-  unfolding after
   after_all s h = at_drop_all (after worth s) calls i h
 
   pub answers_all : (s : State) (said : List (Result Done Refusal)) → length calls ≤ i → said ++ answers worth s (drop i calls) ≡ said
