@@ -2,6 +2,7 @@
 use Rattle.std.proofs.Common.{◌≡◌, ℕ, ◌+◌, ◌-◌, ◌≤◌, false, ◌||◌, eqb, ltb, leb, List, [], ◌∷◌, map, Some, None, Option, sym, refl, ap, ◌∙◌, mul-le-mul_left, arith, sum_by}
 use Rattle.std.proofs.lemmas.List.{length-map}
 use Rattle.std.proofs.lemmas.Bool.{cond-false, cond-true, eq-eqb, le-ltb, ltb-false, or_from, or_parts}
+use Rattle.std.proofs.lemmas.Bool.Decides.{nat_tests}
 use Rattle.std.specs.List.{list_any}
 use Rattle.accounts.specs.declared.record.Record.{Record}
 use Rattle.ledger.specs.declared.call.Call.{Call}
@@ -27,7 +28,8 @@ none_pass : {X : Type 0} (f : X → ℕ) (xs : List X) (n : ℕ) → sum_by f xs
 none_pass f [] n h = refl
 none_pass f (x ∷ xs) n h =
     let all = sum_by-cons f x xs in
-    or_from (ltb n (f x)) _ (le-ltb n (f x) (omega arith)) (none_pass f xs n (omega arith))
+    let rest = none_pass f xs n (omega arith) in
+    grind (arith, nat_tests)
 
 -- the shares of a reading are within it
 shares_fit : (units : ℕ) (rs : List Record) → sum_by (λ r. r.percentage) rs ≤ 100000 → shares units rs ≤ units

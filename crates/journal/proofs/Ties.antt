@@ -1,5 +1,5 @@
 -- What ties an account's record to what its history says of it.
-use Rattle.std.proofs.Common.{◌≡◌, ℕ, ◌+◌, ◌*◌, ◌≤◌, Bool, true, false, cond, not, eqb, List, [], ◌∷◌, Some, None, Option, option_map, refl, ap, subst, mul-zero, arith}
+use Rattle.std.proofs.Common.{◌≡◌, ℕ, ◌+◌, ◌*◌, ◌≤◌, true, false, cond, not, eqb, List, [], ◌∷◌, Some, None, Option, option_map, refl, ap, subst, mul-zero, arith}
 use Rattle.std.proofs.lemmas.Bool.{cond_both, eqb-true, not-false}
 use Rattle.std.proofs.lemmas.Bool.Decides.{nat_tests}
 use Rattle.std.specs.List.{position_from}
@@ -107,11 +107,7 @@ pub entry_tie : (p k g u a i : ℕ) (o : Option Record) (ls : List Line) → pos
 entry_tie p k g u a i o [] ok t = unallocated_tie p k g u o t
 entry_tie p k g u a i o (l ∷ ls) ok t =
     let oks = nowhere i (λ x. not (line_in_range x)) l ls ok in
-    go (eqb l.account a) (line_tie p k g u l o (not-false _ oks.0) t) (entry_tie p k g u a (i + 1) o ls oks.1 t)
-  where
-    now : Option Record
-    now = option_map unallocated o
-
-    go : (b : Bool) → Tied l.percentage l.class g u (Some (placed l now)) → Tied (percentage_on a ls) (class_on a k ls) g u (entry a ls now) → Tied (cond b l.percentage (percentage_on a ls)) (cond b l.class (class_on a k ls)) g u (cond b (Some (placed l now)) (entry a ls now))
-    go true one rest = one
-    go false one rest = rest
+    let one = line_tie p k g u l o (not-false _ oks.0) t in
+    let rest = entry_tie p k g u a (i + 1) o ls oks.1 t in
+    elim (eqb l.account a) as (λ b. Tied (cond b l.percentage (percentage_on a ls)) (cond b l.class (class_on a k ls)) g u (cond b (Some (placed l (option_map unallocated o))) (entry a ls (option_map unallocated o))))
+    [ true ↦ one | false ↦ rest ]
