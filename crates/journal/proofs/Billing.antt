@@ -1,5 +1,6 @@
 -- A bill and a final bill keep what stands, and each bill keeps its rule.
 use Rattle.std.proofs.Common.{◌≡◌, ℕ, ◌+◌, ◌-◌, ◌*◌, ◌≤◌, true, false, cond, eqb, ltb, ◌≢◌, List, ◌∷◌, length, Some, None, Ok, Err, Option, Result, refl, ap, subst₂, arith, sum_by}
+use Rattle.std.proofs.lemmas.Bool.Decides.{nat_tests}
 use Rattle.std.proofs.lemmas.Bool.{cond_both, cond-false, cond-true, eq-eqb, le-ltb, ltb-false}
 use Rattle.accounts.specs.declared.record.Record.{Record}
 use Rattle.crediting.specs.Fewest.{meant}
@@ -44,13 +45,11 @@ record Replaced (period : ℕ) (n r : Record) (rs : List Record) : Type 0 where
 replaced : (account cents period : ℕ) (n r : Record) (rs : List Record) → n.account ≡ account → n.last ≡ period → Billable account cents period rs r → Replaced period n r rs
 replaced account cents period n r rs same last b =
     let sum = put_sum (λ (x : Record). cond (eqb x.last period) 1 0) account n rs r same b.found in
-    let before = cond-false {A = ℕ} (eqb r.last period) 1 0 b.unbilled in
-    let now = cond-true {A = ℕ} (eqb n.last period) 1 0 (eq-eqb n.last period last) in
     record {
       held = put_sum (λ x. x.held) account n rs r same b.found;
       whole = put_sum (λ x. x.percentage) account n rs r same b.found;
       size = put_length n rs;
-      count = omega arith;
+      count = grind (arith, nat_tests);
     }
 
 module _ {M : Type 0} (worth : M → ℕ → ℕ → ℕ) where
