@@ -33,6 +33,7 @@ pub trait AccountBook {
         ensures { sound self.now → result ≡ find account (accounts (contents self.now).records) };
 
     // Whether a record may be put last: the book has room, the record is in range, and its account is new.
+    #[tactic(auto, using(crate::proofs::Finding::found_present))]
     fn takes(&self, new: &Record) -> bool
         ensures { sound self.now → result ≡ takes (contents self.now).records (contents self.now).room new.now }
     {

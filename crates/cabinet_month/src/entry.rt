@@ -3,7 +3,8 @@ ghost use Rattle.cabinet_month.specs.Entries.{entry_of, rate_of, reading_of, wan
 ghost use Rattle.std.specs.Prelude.{◌≡◌, Some};
 
 use super::field::{cut, number};
-use crediting::credit::{MOST_BILL, MOST_UNITS};
+use accounts::limits::MOST_ACCOUNT;
+use crediting::credit::{CLASSES, MOST_BILL, MOST_UNITS};
 use std::error::Error;
 use std::fmt;
 
@@ -63,7 +64,7 @@ fn read_rate(fields: &[u8]) -> Result<Entry, Fault>
     ensures { result ≡ rate_of fields.now }
 {
     let (class, rate) = cut(fields);
-    let class = number(class, 1, 16).ok_or(Fault::Class)?;
+    let class = number(class, 1, u64::from(CLASSES)).ok_or(Fault::Class)?;
     let rate = number(rate, 0, 4_294_967_295).ok_or(Fault::Rate)?;
     Ok(Entry::Rate {
         class: class as u8,
@@ -77,8 +78,8 @@ fn read_reading(mark: Mark, fields: &[u8]) -> Result<Entry, Fault>
     let (account, rest) = cut(fields);
     let (class, rest) = cut(rest);
     let (units, bill) = cut(rest);
-    let account = number(account, 1, 99_999_999_999).ok_or(Fault::Account)?;
-    let class = number(class, 1, 16).ok_or(Fault::Class)?;
+    let account = number(account, 1, MOST_ACCOUNT).ok_or(Fault::Account)?;
+    let class = number(class, 1, u64::from(CLASSES)).ok_or(Fault::Class)?;
     let units = number(units, 0, MOST_UNITS).ok_or(Fault::Units)?;
     let bill = number(bill, 0, MOST_BILL).ok_or(Fault::Bill)?;
     Ok(Entry::Reading(Reading {

@@ -3,7 +3,7 @@ use Rattle.std.specs.Prelude.{◌≡◌, ℕ, ◌+◌, ◌-◌, ◌*◌, ◌/◌
 use Rattle.std.proofs.Common.{arith, add-mul, le-div_iff_mul-le, mod-lt, mul-le-mul, mul-le-mul_right, one-mul, refl, sym, zero-mul, ◌∙◌, ⊎_elim}
 use Rattle.std.proofs.lemmas.Nat.{div-add-mod'}
 use Rattle.std.proofs.lemmas.Bool.{and_parts, cases_Bool, cases_lt, leb-true}
-use Rattle.crediting.specs.Fewest.{applied_inside, applied_outside, used_is, used_outside}
+use Rattle.crediting.specs.Fewest.{Uses, applied_inside, applied_outside, meant, used_is, used_outside}
 use Rattle.crediting.specs.Credits.{Credited, Lawful, applied_credit, units_used}
 use Rattle.crediting.specs.Ranges.{has_worth, in_ranges, is_class}
 use Rattle.crediting.specs.Worths.{Fair, by_rates, cents, rate_of}
@@ -65,6 +65,11 @@ used_rated rs k u b c r w all ok is pays rounds =
     let bounds = class_rate rs k all (and_parts _ _ worth).0 in
     let p : Credited (by_rates rs k) u b c w = rw (rounds, is) (by_rate (rate_of rs k) u b c bounds.0 (pays ∙ applied_inside (by_rates rs) k u b ok)) in
     used_is (by_rates rs) k u b c w (rate_lawful (rate_of rs k) bounds.1) ok p
+
+-- and what is said of them
+pub uses_rated : (rs : List ℕ) (k u b c r w : ℕ) → Fair rs → in_ranges k u b ≡ true → r ≡ rate_of rs k → c ≡ applied_credit (by_rates rs) k u b → w ≡ c * 10_000 / r + min 1 (c * 10_000 % r) → Uses (by_rates rs) k u b c w
+uses_rated rs k u b c r w all ok is pays rounds =
+    meant (by_rates rs) k u b c w (λ i. rate_lawful (rate_of rs k) (class_rate rs k all i).1) pays (used_rated rs k u b c r w all ok is pays rounds)
 
 -- a unit that is a cent pays one cent
 pub used_cents : (k u b c : ℕ) → c ≡ applied_credit cents k u b → c ≡ units_used cents k u b

@@ -1,8 +1,8 @@
--- The smallest number of units worth an amount: it is within the units held, and it alone meets the rule.
+-- The smallest number of units worth an amount: it is within the units held, and it is the only one that meets the rule.
 use Rattle.std.specs.Prelude.{◌≡◌, ℕ, zero, suc, ◌<◌, ◌≤◌, min, true, false, nat_le}
 use Rattle.std.proofs.Common.{arith, refl, sym, ◌∙◌, ap, ⊎_elim}
 use Rattle.std.proofs.Math.Nat.{min-le_left, min-le_right}
-use Rattle.std.proofs.lemmas.Bool.{leb-true, leb-false, and_parts, cases_lt, cond_both, cond-false, cond-true}
+use Rattle.std.proofs.lemmas.Bool.{leb-true, leb-false, and_parts, both_ways, cases_lt, cond_both, cond-false, cond-true}
 use Rattle.crediting.specs.Credits.{Credited, Lawful, TheCredit, Within, applied_credit, smallest, told_worth, units_used}
 use Rattle.crediting.specs.Ranges.{has_worth, in_ranges, is_class}
 
@@ -41,7 +41,13 @@ smallest_fewest W c (suc n) w rises enough =
     (λ _. smallest_fewest W c n w (λ i j a b. rises i j a (omega arith)) enough)
     (λ e. ⊎_elim (λ (h : n < w). h) (λ (h : w ≤ n). omega (arith, rises w n h (omega arith), leb-false c (W n) e)) (cases_lt n w))
 
--- so by a lawful worth it meets the rule
+-- so a number of units that is worth c, where no smaller is, is this one
+pub smallest_is : (W : ℕ → ℕ) (c u w : ℕ) → ((i j : ℕ) → i ≤ j → j ≤ u → W i ≤ W j) → w ≤ u → c ≤ W w → ((v : ℕ) → c ≤ W v → w ≤ v) → smallest W c u ≡ w
+smallest_is W c u w rises within enough fewest =
+    let all : c ≤ W u = omega (arith, enough, rises w u within (omega arith)) in
+    omega (arith, smallest_fewest W c u w rises enough, fewest (smallest W c u) (smallest_enough W c u all))
+
+-- and by a lawful worth it meets the rule
 pub credited : (W : ℕ → ℕ) (u b : ℕ) → Lawful W → u ≤ 1_000_000_000_000 → Credited W u b (min b (W u)) (smallest W (min b (W u)) u)
 credited W u b law top =
     record {
@@ -96,17 +102,32 @@ pub used_is : (W : ℕ → ℕ → ℕ) (k u b c w : ℕ) → Lawful (W k) → i
 used_is W k u b c w law ok p =
     (one_credit (W k) u b c w _ _ p (credited (W k) u b law (held k u b ok))).1 ∙ sym (used_inside W k u b ok)
 
--- what is meant by the credit that a method gives
-pub record Meant (W : ℕ → ℕ → ℕ) (k u b c w : ℕ) : Type 0 where
+-- what is said of the units w that a credit of c cents uses
+pub record Uses (W : ℕ → ℕ → ℕ) (k u b c w : ℕ) : Type 0 where
+  pub value : w ≡ units_used W k u b
   pub within : Within u b c w
   pub meaning : in_ranges k u b ≡ true → TheCredit (W k) u b c w
 
 -- it follows from the two numbers, for any lawful worth
-pub meant : (W : ℕ → ℕ → ℕ) (k u b c w : ℕ) → (is_class k ≡ true → Lawful (W k)) → c ≡ applied_credit W k u b → w ≡ units_used W k u b → Meant W k u b c w
+pub meant : (W : ℕ → ℕ → ℕ) (k u b c w : ℕ) → (is_class k ≡ true → Lawful (W k)) → c ≡ applied_credit W k u b → w ≡ units_used W k u b → Uses W k u b c w
 meant W k u b c w law applied used =
     record {
+      value = used;
       within = record { units = omega (arith, used, used_within W k u b); cents = omega (arith, applied, applied_within W k u b) };
       meaning = λ ok.
           let p : Credited (W k) u b c w = rw (applied ∙ applied_inside W k u b ok, used ∙ used_inside W k u b ok) (credited (W k) u b (law (of_class k u b ok)) (held k u b ok)) in
           (p, λ d v q. one_credit (W k) u b d v c w q p);
+    }
+
+-- inside the ranges, of units that meet the rule
+pub uses_inside : (W : ℕ → ℕ → ℕ) (k u b c w : ℕ) → Lawful (W k) → in_ranges k u b ≡ true → Credited (W k) u b c w → Uses W k u b c w
+uses_inside W k u b c w law ok p = meant W k u b c w (λ _. law) (p.lesser ∙ sym (applied_inside W k u b ok)) (used_is W k u b c w law ok p)
+
+-- and outside, of none
+pub uses_outside : (W : ℕ → ℕ → ℕ) (k u b c : ℕ) → c ≡ applied_credit W k u b → in_ranges k u b ≡ false → Uses W k u b c 0
+uses_outside W k u b c is out =
+    record {
+      value = sym (used_outside W k u b out);
+      within = record { units = omega arith; cents = omega (arith, is, applied_within W k u b) };
+      meaning = λ ok. absurd (both_ways _ out ok);
     }

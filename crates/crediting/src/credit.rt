@@ -42,6 +42,7 @@ pub fn in_ranges(class: u8, units: u64, bill: u64) -> bool
 
 // The applied credit of either method: the lesser of the bill and the worth that the method tells; 0 outside the
 // ranges.
+#[tactic(auto, using(crate::proofs::Applying::applied))]
 pub(crate) fn applied_credit(class: u8, units: u64, bill: u64, worth: u64) -> u64
     ensures { (W : ℕ → ℕ → ℕ) → worth ≡ told_worth W class units → result ≡ applied_credit W class units bill }
 {

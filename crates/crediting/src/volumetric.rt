@@ -74,6 +74,7 @@ impl CreditMethod for Volumetric {
 
 impl Volumetric {
     // A credit takes its cents over the rate, rounded up to whole units.
+    #[tactic(auto, using(crate::proofs::Applying::used))]
     fn used(&self, class: u8, units: u64, bill: u64, applied: u64) -> u64
         requires { applied ≡ applied_credit (by_rates self.now.rates) class units bill }
         ensures { result ≡ units_used (by_rates self.now.rates) class units bill }

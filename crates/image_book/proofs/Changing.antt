@@ -1,5 +1,5 @@
 -- Adding and replacing in an image that opens.
-use Rattle.std.proofs.Common.{◌≡◌, ℕ, ◌+◌, ◌-◌, ◌/◌, ◌^◌, ◌<◌, ◌≤◌, min, true, List, [], ◌∷◌, ◌++◌, length, set, is_some, Some, sym, ap, ◌∙◌, subst, ⊎_elim, add-one, arith, below_more}
+use Rattle.std.proofs.Common.{◌≡◌, ℕ, ◌+◌, ◌-◌, ◌/◌, ◌^◌, ◌<◌, ◌≤◌, min, true, List, [], ◌∷◌, ◌++◌, length, set, is_some, Some, ap, ◌∙◌, ⊎_elim, add-one, arith, below_more}
 use Rattle.std.proofs.lemmas.Bool.{cases_eq}
 use Rattle.std.specs.Int.{w32, to_le_bytes, from_le_bytes}
 use Rattle.accounts.specs.declared.record.Record.{Record}
@@ -97,7 +97,7 @@ module _ (bs : List ℕ) (n room : ℕ) (s : Reads bs n room) (r : Record) (bs' 
       let w = s.whole in
       let p = takes_parts (held n bs) room r t in
       let o = open_of bs n room s.same_count s.same_room (omega arith) in (
-        subst (λ x. Reads x (n + 1) room) (sym e) (reads_open (with_added n r bs) (n + 1) room (open_added bs n room o r p.1 (omega arith) t)),
+        rw e (reads_open (with_added n r bs) (n + 1) room (open_added bs n room o r p.1 (omega arith) t)),
         ap (held (n + 1)) e ∙ list_added bs n room o r p.1 (omega arith) t,
       )
 
@@ -107,6 +107,6 @@ module _ (bs : List ℕ) (n room : ℕ) (s : Reads bs n room) (r : Record) (bs' 
       let f = s.proper.fits in
       let p = suits_parts (held n bs) i r t in
       let o = open_of bs n room s.same_count s.same_room (omega arith) in (
-        subst (λ x. Reads x n room) (sym e) (reads_open (with_record i r bs) n room (open_replaced bs n room o r p.1 i (omega arith) t)),
+        rw e (reads_open (with_record i r bs) n room (open_replaced bs n room o r p.1 i (omega arith) t)),
         ap (held n) e ∙ list_replaced bs n room o r p.1 i (omega arith) t,
       )

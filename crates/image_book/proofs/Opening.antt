@@ -1,11 +1,11 @@
 -- An image that opens, and the book that it holds.
-use Rattle.std.proofs.Common.{◌≡◌, ℕ, ◌<◌, ◌≤◌, Bool, true, false, cond, List, length, is_some, is_err, Some, None, Ok, Err, Option, Result, sym, refl, ap, ◌∙◌, subst, arith}
+use Rattle.std.proofs.Common.{◌≡◌, ℕ, ◌<◌, ◌≤◌, Bool, true, false, cond, List, length, is_some, is_err, Some, None, Ok, Err, Option, Result, sym, refl, ap, ◌∙◌, arith}
 use Rattle.std.proofs.lemmas.Bool.{cond_both, cond-true}
+use Rattle.std.proofs.lemmas.Option.{none-some}
 use Rattle.accounts.specs.Books.{accounts, distinct, Proper}
 use Rattle.image_book.specs.Images.{count_in, capacity_of, held}
 use Rattle.image_book.specs.Refusals.{told, lacks_room, start_refusal, unfit, first_unfit, seventh, open_refusal}
 use Rattle.image_book.specs.Reading.{Legible, opened_count, opened_room, Reads}
-use Rattle.image_book.specs.Holding.{ComesBack}
 use Rattle.image_book.specs.declared.checks.ImageRefusal.{ImageRefusal}
 use Rattle.image_book.proofs.Places.{length_held, every_held, distinct_fit, legible_fit, fit_each, fit_none, none_fit}
 use Rattle.image_book.proofs.Judging.{judged, room_parts, room_from}
@@ -20,7 +20,7 @@ pub record Open (bs : List ℕ) (n room : ℕ) : Type 0 where
 
 seventh_none : (o : Option ℕ) → seventh o ≡ None → o ≡ None
 seventh_none None e = refl
-seventh_none (Some i) e = let z : ◌≡◌ {A = ℕ} 0 1 = cc in absurd (omega arith)
+seventh_none (Some i) e = absurd (none-some (7, i) (sym e))
 
 module _ (bs : List ℕ) where
   pub open_none : (n room : ℕ) → Open bs n room → open_refusal bs ≡ None
@@ -32,7 +32,7 @@ module _ (bs : List ℕ) where
   pub none_open : open_refusal bs ≡ None → Open bs (count_in bs) (capacity_of bs)
   none_open e =
       cond_both (lacks_room bs) (Some (6, 0)) (seventh (first_unfit (count_in bs) 0 bs)) (λ o. o ≡ None → Open bs (count_in bs) (capacity_of bs))
-      (λ _ f. let z : ◌≡◌ {A = ℕ} 0 1 = cc in absurd (omega arith))
+      (λ _ f. absurd (none-some (6, 0) (sym f)))
       (λ h f.
       let p = room_parts bs h in
       let fit : (j : ℕ) → j < count_in bs → unfit j bs ≡ false = λ j k. none_fit bs (count_in bs) 0 (seventh_none (first_unfit (count_in bs) 0 bs) f) j (omega arith) (omega arith) in
@@ -64,7 +64,7 @@ module _ (bs : List ℕ) where
       }
 
   open_by : (o : Option (ℕ × ℕ)) → open_refusal bs ≡ o → (n room : ℕ) → n ≡ cond (is_some o) 0 (count_in bs) → room ≡ cond (is_some o) 0 (capacity_of bs) → 0 < room → Open bs n room
-  open_by None e n room a b h = subst (λ k. Open bs k room) (sym a) (subst (λ k. Open bs (count_in bs) k) (sym b) (none_open e))
+  open_by None e n room a b h = rw (a, b) (none_open e)
   open_by (Some x) e n room a b h = absurd (omega arith)
 
   -- a book with room in it has an image that opens
@@ -72,14 +72,11 @@ module _ (bs : List ℕ) where
   open_of n room a b h = open_by (open_refusal bs) refl n room a b h
 
   legible_by : (o : Option (ℕ × ℕ)) → open_refusal bs ≡ o → (n : ℕ) → n ≡ cond (is_some o) 0 (count_in bs) → Legible n bs × (n ≤ capacity_of bs)
-  legible_by None e n a = let p = none_open e in subst (λ k. Legible k bs × (k ≤ capacity_of bs)) (sym a) (p.legible, p.fits)
+  legible_by None e n a = let p = none_open e in rw a (p.legible, p.fits)
   legible_by (Some x) e n a = ((λ i h. absurd (omega arith)), omega arith)
 
   pub legible_opened : (n : ℕ) → n ≡ opened_count bs → Legible n bs × (n ≤ capacity_of bs)
   legible_opened n a = legible_by (open_refusal bs) refl n a
-
-  pub room_within : opened_room bs ≤ capacity_of bs
-  room_within = cond_both (is_some (open_refusal bs)) 0 (capacity_of bs) (λ k. k ≤ capacity_of bs) (λ _. omega arith) (λ _. omega arith)
 
 -- what a check before a start answers
 told_err : (r : Result (Unit {0}) ImageRefusal) → is_err r ≡ is_some (told r)
@@ -96,12 +93,6 @@ module _ (bs : List ℕ) where
   proper_none : Proper (held 0 bs) 0
   unfolding held
   proper_none = record { ranged = refl; apart = refl; fits = omega arith; bounded = omega arith }
-
-  -- a book whose image is opened again comes back
-  pub comes_back : (n room : ℕ) → n ≡ opened_count bs → room ≡ opened_room bs → ComesBack bs n room
-  comes_back n room a c b s e =
-      let k : b.count ≡ n = s.same_count ∙ (ap opened_count e ∙ sym a) in
-      (ap (held b.count) e ∙ ap (λ m. held m bs) k, s.same_room ∙ (ap opened_room e ∙ sym c))
 
   pub reads_open : (n room : ℕ) → Open bs n room → Reads bs n room
   reads_open n room o = record {
@@ -122,10 +113,10 @@ module _ (bs : List ℕ) where
 
   -- an image that opens, and one that is refused
   pub reads_ok : (n room : ℕ) → None ≡ open_refusal bs → n ≡ count_in bs → room ≡ capacity_of bs → Reads bs n room
-  reads_ok n room e a b = subst (λ k. Reads bs k room) (sym a) (subst (λ k. Reads bs (count_in bs) k) (sym b) (reads_open (count_in bs) (capacity_of bs) (none_open bs (sym e))))
+  reads_ok n room e a b = rw (a, b) (reads_open (count_in bs) (capacity_of bs) (none_open bs (sym e)))
 
   pub reads_err : (n room : ℕ) (r : ℕ × ℕ) → Some r ≡ open_refusal bs → n ≡ 0 → room ≡ 0 → Reads bs n room
-  reads_err n room r e a b = subst (λ k. Reads bs k room) (sym a) (subst (λ k. Reads bs 0 k) (sym b) (reads_none (ap is_some (sym e))))
+  reads_err n room r e a b = rw (a, b) (reads_none (ap is_some (sym e)))
 
   -- an image that lacks the room opens as nothing
   pub reads_lacking : true ≡ lacks_room bs → Reads bs 0 0

@@ -3,15 +3,14 @@ use Rattle.std.proofs.Common.{◌≡◌, ℕ, zero, suc, ◌+◌, ◌<◌, ◌�
 use Rattle.std.proofs.lemmas.List.{length_push, map_push, get_or_append_left, get_or_at}
 use Rattle.std.proofs.lemmas.List.FromFn.{map-range_with_len_more}
 use Rattle.std.proofs.lemmas.Simd.{map-map}
-use Rattle.std.proofs.lemmas.Option.{slice_get-get_or}
-use Rattle.std.proofs.lemmas.Bool.{cond_both, cond-true, cond-false, cases_eq}
-use Rattle.std.proofs.lemmas.Bool.Decides.{nat_tests}
+use Rattle.std.proofs.lemmas.Option.{none-some, slice_get-get_or}
+use Rattle.std.proofs.lemmas.Bool.{and_parts, not-true, cond_both, cases_eq}
 use Rattle.std.specs.List.{slice_get, range_with_len, position}
 use Rattle.std.specs.Option.{option_to_list}
 use Rattle.accounts.specs.declared.record.Record.{Record}
 use Rattle.accounts.specs.Ranges.{in_range}
 use Rattle.accounts.specs.Books.{accounts, find, present, distinct, every}
-use Rattle.accounts.proofs.Finding.{find_position, found_present, distinct_push, present_push}
+use Rattle.accounts.proofs.Finding.{find_position, distinct_more, found_present, distinct_push}
 use Rattle.accounts.proofs.Keeping.{every_push}
 use Rattle.record_codec.specs.Codec.{decoded}
 use Rattle.record_codec.proofs.Inverse.{holds_decoded, in_range_decoded}
@@ -21,26 +20,11 @@ use Rattle.image_book.specs.Reading.{Legible}
 use Rattle.image_book.proofs.Slots.{first_slots}
 
 pub some_of : {X : Type 0} (o : Option X) → is_some o ≡ true → (x : X) × (o ≡ Some x)
-some_of None h = let z : ◌≡◌ {A = ℕ} 0 1 = cc in absurd (omega arith)
+some_of None h = grind arith
 some_of (Some x) h = (x, refl)
 
--- an account that is added last to a list with no account twice was new
-distinct_before : (b : ℕ) (xs : List ℕ) → distinct (xs ++ b ∷ []) ≡ true → distinct xs ≡ true
-distinct_before b [] h = refl
-distinct_before b (x ∷ xs) h =
-    let e = present_push x b xs in
-    let ih = distinct_before b xs in
-    grind (arith, nat_tests)
-
-distinct_last : (b : ℕ) (xs : List ℕ) → distinct (xs ++ b ∷ []) ≡ true → present b xs ≡ false
-distinct_last b [] h = refl
-distinct_last b (x ∷ xs) h =
-    let e = present_push x b xs in
-    let ih = distinct_last b xs in
-    grind (arith, nat_tests)
-
 legible_of : (earlier : List ℕ) (o : Option Record) → unfit_after earlier o ≡ false → is_some o ≡ true
-legible_of earlier None h = let z : ◌≡◌ {A = ℕ} 0 1 = cc in absurd (omega arith)
+legible_of earlier None h = grind arith
 legible_of earlier (Some r) h = refl
 
 module _ (bs : List ℕ) where
@@ -134,25 +118,23 @@ module _ (bs : List ℕ) where
   fit_each (suc n) l d j h =
       let s = some_of (decoded (slot n bs)) (l n (omega arith)) in
       let e = ap accounts (held_more n s.0 s.1) ∙ map_push (λ (r : Record). r.account) (held n bs) s.0 in
-      let d' = ap distinct (sym e) ∙ d in
+      let d' = and_parts _ _ (sym (distinct_more s.0.account (accounts (held n bs))) ∙ (ap distinct (sym e) ∙ d)) in
       ⊎_elim
       (λ q.
-      let u : unfit n bs ≡ false = ap (unfit_after (accounts (held n bs))) s.1 ∙ distinct_last s.0.account (accounts (held n bs)) d' in
+      let u : unfit n bs ≡ false = ap (unfit_after (accounts (held n bs))) s.1 ∙ not-true _ d'.1 in
       ap (λ k. unfit k bs) q ∙ u)
-      (λ q. fit_each n (legible_less (suc n) n (omega arith) l) (distinct_before s.0.account (accounts (held n bs)) d') j (omega arith))
+      (λ q. fit_each n (legible_less (suc n) n (omega arith) l) d'.0 j (omega arith))
       (cases_eq j n)
 
   pub fit_none : (k i : ℕ) → ((j : ℕ) → i ≤ j → j < i + k → unfit j bs ≡ false) → first_unfit k i bs ≡ None
   fit_none zero i f = refl
-  fit_none (suc k) i f =
-      cond-false (unfit i bs) (Some i) (first_unfit k (i + 1) bs) (f i (omega arith) (omega arith))
-      ∙ fit_none k (i + 1) (λ j h l. f j (omega arith) (omega arith))
+  fit_none (suc k) i f = rw (f i (omega arith) (omega arith)) (fit_none k (i + 1) (λ j h l. f j (omega arith) (omega arith)))
 
   pub none_fit : (k i : ℕ) → first_unfit k i bs ≡ None → (j : ℕ) → i ≤ j → j < i + k → unfit j bs ≡ false
   none_fit zero i e j h l = absurd (omega arith)
   none_fit (suc k) i e j h l =
       cond_both (unfit i bs) (Some i) (first_unfit k (i + 1) bs) (λ o. o ≡ None → unfit j bs ≡ false)
-      (λ _ f. let z : ◌≡◌ {A = ℕ} 0 1 = cc in absurd (omega arith))
+      (λ _ f. absurd (none-some i (sym f)))
       (λ u f. ⊎_elim (λ q. ap (λ m. unfit m bs) (sym q) ∙ u) (λ q. none_fit k (i + 1) f j (omega arith) (omega arith)) (cases_eq i j))
       e
 
@@ -160,11 +142,10 @@ module _ (bs : List ℕ) where
   fit_some zero i m h f u = absurd (omega arith)
   fit_some (suc k) i zero h f u =
       let e : i + 0 ≡ i = omega arith in
-      cond-true (unfit i bs) (Some i) (first_unfit k (i + 1) bs) (ap (λ j. unfit j bs) (sym e) ∙ u) ∙ ap Some (sym e)
+      rw e (rw (subst (λ j. unfit j bs ≡ true) e u) refl)
   fit_some (suc k) i (suc m) h f u =
       let e : i + suc m ≡ i + 1 + m = omega arith in
-      cond-false (unfit i bs) (Some i) (first_unfit k (i + 1) bs) (f i (omega arith) (omega arith))
-      ∙ (fit_some k (i + 1) m (omega arith) (λ j p q. f j (omega arith) (omega arith)) (ap (λ j. unfit j bs) (sym e) ∙ u) ∙ ap Some (sym e))
+      rw (f i (omega arith) (omega arith), e) (fit_some k (i + 1) m (omega arith) (λ j p q. f j (omega arith) (omega arith)) (subst (λ j. unfit j bs ≡ true) e u))
 
   -- what is judged of a place whose earlier places are legible
   abbrev pub Judged : ℕ → Bool → Type 0

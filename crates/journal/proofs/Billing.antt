@@ -1,8 +1,9 @@
 -- A bill and a final bill keep what stands, and each bill keeps its rule.
 use Rattle.std.proofs.Common.{◌≡◌, ℕ, ◌+◌, ◌-◌, ◌*◌, ◌≤◌, true, false, cond, eqb, ltb, ◌≢◌, List, ◌∷◌, length, Some, None, Ok, Err, Option, Result, refl, ap, subst₂, arith, sum_by}
+use Rattle.std.proofs.lemmas.Bool.Decides.{nat_tests}
 use Rattle.std.proofs.lemmas.Bool.{cond_both, cond-false, cond-true, eq-eqb, le-ltb, ltb-false}
 use Rattle.accounts.specs.declared.record.Record.{Record}
-use Rattle.crediting.specs.Fewest.{used_within}
+use Rattle.crediting.specs.Fewest.{meant}
 use Rattle.crediting.specs.Credits.{Credited, Lawful}
 use Rattle.crediting.specs.Ranges.{is_class}
 use Rattle.ledger.specs.declared.call.Call.TheVariants as call
@@ -20,7 +21,7 @@ use Rattle.journal.specs.Histories.{Event, History, class_of, disbursed_to, give
 use Rattle.ledger.specs.Phases.{fees_in}
 use Rattle.journal.specs.Laws.{BillRule}
 use Rattle.crediting.specs.Fewest.{applied_within}
-use Rattle.journal.proofs.Amounts.{counted_within, credited, in_range_all, net_and_fee}
+use Rattle.journal.proofs.Amounts.{counted_within, in_range_all, net_and_fee}
 use Rattle.ledger.proofs.Fees.{fee_covers}
 use Rattle.ledger.proofs.Found.{found_account, found_within, put_length, put_sum}
 use Rattle.journal.proofs.Standing.{Kept, Stands, Ties, billed_in, bounds_at, keeps_declined}
@@ -44,13 +45,11 @@ record Replaced (period : ℕ) (n r : Record) (rs : List Record) : Type 0 where
 replaced : (account cents period : ℕ) (n r : Record) (rs : List Record) → n.account ≡ account → n.last ≡ period → Billable account cents period rs r → Replaced period n r rs
 replaced account cents period n r rs same last b =
     let sum = put_sum (λ (x : Record). cond (eqb x.last period) 1 0) account n rs r same b.found in
-    let before = cond-false {A = ℕ} (eqb r.last period) 1 0 b.unbilled in
-    let now = cond-true {A = ℕ} (eqb n.last period) 1 0 (eq-eqb n.last period last) in
     record {
       held = put_sum (λ x. x.held) account n rs r same b.found;
       whole = put_sum (λ x. x.percentage) account n rs r same b.found;
       size = put_length n rs;
-      count = omega arith;
+      count = grind (arith, nat_tests);
     }
 
 module _ {M : Type 0} (worth : M → ℕ → ℕ → ℕ) where
@@ -69,7 +68,7 @@ module _ {M : Type 0} (worth : M → ℕ → ℕ → ℕ) where
           let few = count_by-le-length (λ (x : Record). eqb x.last (s.closed + 1)) s.records in
           let one = counted_within r.kind (posting (worth m) r cents).applied in
           let own = applied_within (worth m) r.class r.held cents in
-          omega (arith, bounds.small, i.fits, i.few)
+          omega arith
 
       go : (o : Option Record) → record_of account s.records ≡ o → cents ≤ 1_000_000_000 → P (judge_record (worth m) period applied cents o)
       go None e small = no-bill why.NoOpenAccount (omega arith)
@@ -91,23 +90,23 @@ module _ {M : Type 0} (worth : M → ℕ → ℕ → ℕ) where
   posted lawful h s m account cents r i b =
       let t = found_tie _ _ _ _ _ r b.found b.unclosed (i.ties account) in
       let most = found_within (λ r. r.held) account s.records r b.found in
-      let top : r.held ≤ 1_000_000_000_000 = omega (arith, i.law.units, i.readings, i.within) in
-      let had : r.held ≡ given account h - used_by account h = omega (arith, t.holds) in
-      let c = credited (worth m) r.class r.held cents (lawful m r.class t.is) top (in_range_all r.class r.held cents t.is top b.small) in
+      let top : r.held ≤ 1_000_000_000_000 = omega arith in
+      let had : r.held ≡ given account h - used_by account h = omega arith in
       let p : Posting = posting (worth m) r cents in
-      let own = applied_within (worth m) r.class r.held cents in
+      let own = meant (worth m) r.class r.held cents p.applied p.used (λ _. lawful m r.class t.is) refl refl in
+      let rule = (own.meaning (in_range_all r.class r.held cents t.is top b.small)).0 in
       let one = counted_within r.kind p.applied in
       record {
         tie = t;
         rule = record {
-          covered = omega (arith, t.holds);
+          covered = omega arith;
           within = omega arith;
-          credit = subst₂ (λ k u. Credited (worth m k) u cents p.applied p.used) t.classed had c;
+          credit = subst₂ (λ k u. Credited (worth m k) u cents p.applied p.used) t.classed had rule;
         };
-        inside = used_within (worth m) r.class r.held cents;
+        inside = own.within.units;
         split = net_and_fee r.kind r.savings p.applied t.low;
         paid = fee_covers r.kind r.savings p.applied t.low;
-        small = omega (arith, b.small);
+        small = omega (arith, own.within.cents);
       }
 
   pub keeps_bill : (lawful : (m : M) (k : ℕ) → is_class k ≡ true → Lawful (worth m k)) (h : History M) (s : State) (m : M) (applied fees account cents : ℕ) → s.phase ≡ InPeriod applied fees → Stands worth h s → Kept worth h (call.Bill m account cents) (bill (worth m) s applied fees account cents)
@@ -133,19 +132,19 @@ module _ {M : Type 0} (worth : M → ℕ → ℕ → ℕ) where
             called = refl;
             answered = refl;
             stands = record {
-              fits = omega (arith, i.fits, q.size);
+              fits = omega arith;
               few = i.few;
-              whole = omega (arith, i.whole, q.whole);
-              readings = omega (arith, sum_by-cons {X = Event M}, i.readings);
+              whole = omega arith;
+              readings = omega (arith, sum_by-cons {X = Event M});
               within = i.within;
-              bounds = omega (arith, f.paid, f.small, bounds, q.count);
+              bounds = omega arith;
               ties = put_ties (Ties worth h) (Ties worth (e ∷ h)) account n s.records r same b.found
-                  (held_tie _ _ _ _ _ _ (r.held - p.used) (s.closed + 1) r (λ o. omega (arith, o.holds, f.inside)) (λ _. f.tie))
+                  (held_tie _ _ _ _ _ _ (r.held - p.used) (s.closed + 1) r (λ o. omega arith) (λ _. f.tie))
                   (λ a o other t. let none : of_account a account p.used ≡ 0 = cond-false _ _ _ other in tied_same _ _ _ (used_by a h) _ _ _ o refl refl (omega arith) t)
                   i.ties;
               law = record {
-                units = omega (arith, sum_by-cons {X = Event M}, i.law.units, f.inside, q.held);
-                cents = omega (arith, sum_by-cons {X = Event M}, i.law.cents, f.split);
+                units = omega (arith, sum_by-cons {X = Event M});
+                cents = omega (arith, sum_by-cons {X = Event M});
                 each = (f.rule, i.law.each);
               };
             };
@@ -173,18 +172,18 @@ module _ {M : Type 0} (worth : M → ℕ → ℕ → ℕ) where
             called = refl;
             answered = refl;
             stands = record {
-              fits = omega (arith, i.fits, q.size);
+              fits = omega arith;
               few = i.few;
-              whole = omega (arith, i.whole, q.whole);
-              readings = omega (arith, sum_by-cons {X = Event M}, i.readings);
+              whole = omega arith;
+              readings = omega (arith, sum_by-cons {X = Event M});
               within = i.within;
-              bounds = omega (arith, f.paid, f.small, bounds, q.count);
+              bounds = omega arith;
               ties = put_ties (Ties worth h) (Ties worth (e ∷ h)) account n s.records r same b.found (λ closed. cc)
                   (λ a o other t. let none : of_account a account p.used ≡ 0 = cond-false _ _ _ other in tied_same _ _ _ (used_by a h) _ _ _ o (cond-false _ _ _ other) refl (omega arith) t)
                   i.ties;
               law = record {
-                units = omega (arith, sum_by-cons {X = Event M}, i.law.units, f.inside, q.held);
-                cents = omega (arith, sum_by-cons {X = Event M}, i.law.cents, f.split);
+                units = omega (arith, sum_by-cons {X = Event M});
+                cents = omega (arith, sum_by-cons {X = Event M});
                 each = (f.rule, i.law.each);
               };
             };

@@ -52,14 +52,14 @@ module _ {M : Type 0} (worth : M → ℕ → ℕ → ℕ) where
         called = refl;
         answered = refl;
         stands = record {
-          fits = omega (arith, n.size, ok.fits, i.fits);
+          fits = omega arith;
           few = i.few;
-          whole = omega (arith, n.whole, ok.whole);
-          readings = omega (arith, sum_by-cons {X = Event M}, i.readings);
+          whole = omega arith;
+          readings = omega (arith, sum_by-cons {X = Event M});
           within = i.within;
           bounds = unbounded s.phase _ at;
           ties = λ a. rw (entered_found a (map unallocated s.records) (vec_items ls) ok.apart, map_found unallocated (λ r. refl) a s.records)
               (entry_tie _ _ _ _ a 0 (record_of a s.records) (vec_items ls) ok.ranged (i.ties a));
-          law = record { units = omega (arith, sum_by-cons {X = Event M}, i.law.units, n.held); cents = omega (arith, sum_by-cons {X = Event M}, i.law.cents); each = (tt, i.law.each) };
+          law = record { units = omega (arith, sum_by-cons {X = Event M}); cents = omega (arith, sum_by-cons {X = Event M}); each = (tt, i.law.each) };
         };
       })

@@ -1,7 +1,6 @@
 -- What the lines of a request make of the records: who has a record and which, how many there are, and their sums.
-use Rattle.std.proofs.Common.{◌≡◌, ℕ, ◌+◌, ◌≤◌, Bool, true, false, cond, not, eqb, List, [], ◌∷◌, length, is_some, Some, None, Option, sym, refl, ap, ◌∙◌, arith, sum_by}
+use Rattle.std.proofs.Common.{◌≡◌, ℕ, ◌+◌, ◌≤◌, true, false, cond, eqb, List, [], ◌∷◌, length, is_some, Some, None, Option, sym, refl, ◌∙◌, arith, sum_by}
 use Rattle.std.proofs.lemmas.List.{length_push, map_push}
-use Rattle.std.proofs.lemmas.Bool.{and_parts, eqb-true, not-true}
 use Rattle.std.proofs.lemmas.Bool.Decides.{nat_tests}
 use Rattle.accounts.proofs.Finding.{present_push}
 use Rattle.accounts.specs.declared.record.Line.{Line}
@@ -35,14 +34,10 @@ enter_found a rs l (Some r) e =
 pub entered_found : (a : ℕ) (rs : List Record) (ls : List Line) → distinct (line_accounts ls) ≡ true → record_of a (enter_all rs ls) ≡ entry a ls (record_of a rs)
 entered_found a rs [] e = refl
 entered_found a rs (l ∷ ls) e =
-    let rs₁ : List Record = enter (record_of l.account rs) rs l in
-    let parts = and_parts (not (present l.account (line_accounts ls))) (distinct (line_accounts ls)) e in
     let one = enter_found a rs l (record_of l.account rs) refl in
-    entered_found a rs₁ ls parts.1 ∙ ap (entry a ls) one ∙ go (eqb l.account a) (eqb-true l.account a) (not-true _ parts.0)
-  where
-    go : (b : Bool) → (b ≡ true → l.account ≡ a) → present l.account (line_accounts ls) ≡ false → entry a ls (cond b (Some (placed l (record_of l.account rs))) (record_of a rs)) ≡ cond b (Some (placed l (record_of a rs))) (entry a ls (record_of a rs))
-    go true same absent = rw (← same refl) (entry_other l.account ls _ absent)
-    go false same absent = refl
+    let rest = entered_found a (enter (record_of l.account rs) rs l) ls in
+    let other = entry_other l.account ls (Some (placed l (record_of l.account rs))) in
+    grind (arith, nat_tests)
 
 -- no account is lost, and a record joins only for a new one
 enter_present : (a : ℕ) (rs : List Record) (l : Line) (o : Option Record) → present a (accounts rs) ≡ true → present a (accounts (enter o rs l)) ≡ true

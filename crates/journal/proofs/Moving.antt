@@ -2,6 +2,7 @@
 use Rattle.std.proofs.Common.{◌≡◌, ℕ, ◌+◌, ◌-◌, ◌≤◌, false, ◌||◌, eqb, ltb, leb, List, [], ◌∷◌, map, Some, None, Option, sym, refl, ap, ◌∙◌, mul-le-mul_left, arith, sum_by}
 use Rattle.std.proofs.lemmas.List.{length-map}
 use Rattle.std.proofs.lemmas.Bool.{cond-false, cond-true, eq-eqb, le-ltb, ltb-false, or_from, or_parts}
+use Rattle.std.proofs.lemmas.Bool.Decides.{nat_tests}
 use Rattle.std.specs.List.{list_any}
 use Rattle.accounts.specs.declared.record.Record.{Record}
 use Rattle.ledger.specs.declared.call.Call.{Call}
@@ -27,7 +28,8 @@ none_pass : {X : Type 0} (f : X → ℕ) (xs : List X) (n : ℕ) → sum_by f xs
 none_pass f [] n h = refl
 none_pass f (x ∷ xs) n h =
     let all = sum_by-cons f x xs in
-    or_from (ltb n (f x)) _ (le-ltb n (f x) (omega arith)) (none_pass f xs n (omega arith))
+    let rest = none_pass f xs n (omega arith) in
+    grind (arith, nat_tests)
 
 -- the shares of a reading are within it
 shares_fit : (units : ℕ) (rs : List Record) → sum_by (λ r. r.percentage) rs ≤ 100000 → shares units rs ≤ units
@@ -52,7 +54,7 @@ moved s units r =
 
 module _ {M : Type 0} (worth : M → ℕ → ℕ → ℕ) where
   held_within : (h : History M) (s : State) → Stands worth h s → s.bank + sum_by (λ r. r.held) s.records ≤ s.read
-  held_within h s i = omega (arith, i.law.units, i.readings)
+  held_within h s i = omega arith
 
   -- a book of this run is never another ledger's
   not_foreign : (h : History M) (s : State) (units : ℕ) → Stands worth h s → s.read + units ≤ 1_000_000_000_000 → foreign_to_reading units s.records ≡ false
@@ -74,14 +76,14 @@ module _ {M : Type 0} (worth : M → ℕ → ℕ → ℕ) where
         called = refl;
         answered = refl;
         stands = record {
-          fits = omega (arith, i.fits);
+          fits = omega arith;
           few = i.few;
-          whole = omega (arith, i.whole);
-          readings = omega (arith, sum_by-cons {X = Event M}, i.readings);
+          whole = omega arith;
+          readings = omega (arith, sum_by-cons {X = Event M});
           within = small;
           bounds = record { paid = omega arith; small = omega arith };
           ties = λ a. rw (map_found (gaining units) (λ r. refl) a s.records) (gain_tie units _ _ (given a h) _ _ (record_of a s.records) (omega arith) (i.ties a));
-          law = record { units = omega (arith, sum_by-cons {X = Event M}, i.law); cents = omega (arith, sum_by-cons {X = Event M}, i.law); each = (tt, i.law.each) };
+          law = record { units = omega (arith, sum_by-cons {X = Event M}); cents = omega (arith, sum_by-cons {X = Event M}); each = (tt, i.law.each) };
         };
       }
 
@@ -105,22 +107,22 @@ module _ {M : Type 0} (worth : M → ℕ → ℕ → ℕ) where
       let whole = put_sum (λ r. r.percentage) account n s.records r same e in
       let size = put_length n s.records in
       let own : history.of_account account account units ≡ units = cond-true _ _ _ (eq-eqb account account refl) in
-      let tie : Ties worth (history.disbursed account units (s.bank - units) ∷ h) account (Some n) = held_tie _ _ _ _ _ _ (r.held + units) r.last r (λ o. omega (arith, o.holds)) (λ _. t) in
+      let tie : Ties worth (history.disbursed account units (s.bank - units) ∷ h) account (Some n) = held_tie _ _ _ _ _ _ (r.held + units) r.last r (λ o. omega arith) (λ _. t) in
       record {
         event = history.disbursed account units (s.bank - units);
         called = refl;
         answered = refl;
         stands = record {
-          fits = omega (arith, i.fits);
+          fits = omega arith;
           few = i.few;
-          whole = omega (arith, i.whole);
-          readings = omega (arith, sum_by-cons {X = Event M}, i.readings);
+          whole = omega arith;
+          readings = omega (arith, sum_by-cons {X = Event M});
           within = i.within;
           bounds = unbounded s.phase _ at;
           ties = put_ties (Ties worth h) (Ties worth (history.disbursed account units (s.bank - units) ∷ h)) account n s.records r same e tie
               (λ b o other t. let none : history.of_account b account units ≡ 0 = cond-false _ _ _ other in tied_same _ _ (given b h) _ _ _ _ o refl (omega arith) refl t)
               i.ties;
-          law = record { units = omega (arith, sum_by-cons {X = Event M}, i.law); cents = omega (arith, sum_by-cons {X = Event M}, i.law); each = (tt, i.law.each) };
+          law = record { units = omega (arith, sum_by-cons {X = Event M}); cents = omega (arith, sum_by-cons {X = Event M}); each = (tt, i.law.each) };
         };
       }
 
@@ -137,5 +139,5 @@ module _ {M : Type 0} (worth : M → ℕ → ℕ → ℕ) where
           keeps_unless worth h s c (is_closed r.state) why.NoOpenAccount _ (omega arith) i
           (λ unclosed. keeps_unless worth h s c (eqb units 0 || ltb s.bank units) why.NotInBank _ (omega arith) i
           (λ inside. let enough = ltb-false s.bank units (or_parts (eqb units 0) _ inside).1 in
-          keeps_past worth h s c (ltb 1000000000000 (r.held + units)) why.ForeignBook _ (le-ltb 1000000000000 _ (omega (arith, held_within h s i, i.within)))
+          keeps_past worth h s c (ltb 1000000000000 (r.held + units)) why.ForeignBook _ (le-ltb 1000000000000 _ (omega (arith, held_within h s i)))
           (keeps_moved h s account units r at i e unclosed enough)))

@@ -118,7 +118,7 @@ module _ {M : Type 0} (worth : M → ℕ → ℕ → ℕ) where
           within = i.within;
           bounds = i.bounds;
           ties = i.ties;
-          law = record { units = omega (arith, sum_by-cons {X = Event M}, i.law); cents = omega (arith, sum_by-cons {X = Event M}, i.law); each = (tt, i.law.each) };
+          law = record { units = omega (arith, sum_by-cons {X = Event M}); cents = omega (arith, sum_by-cons {X = Event M}); each = (tt, i.law.each) };
         };
       }
 
@@ -142,8 +142,8 @@ module _ {M : Type 0} (worth : M → ℕ → ℕ → ℕ) where
           bounds = tt;
           ties = i.ties;
           law = record {
-            units = omega (arith, sum_by-cons {X = Event M}, i.law);
-            cents = omega (arith, sum_by-cons {X = Event M}, i.law);
+            units = omega (arith, sum_by-cons {X = Event M});
+            cents = omega (arith, sum_by-cons {X = Event M});
             each = (record { covered = most; rest = omega arith }, i.law.each);
           };
         };

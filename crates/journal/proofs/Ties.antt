@@ -1,11 +1,11 @@
 -- What ties an account's record to what its history says of it.
-use Rattle.std.proofs.Common.{◌≡◌, ℕ, ◌+◌, ◌*◌, ◌≤◌, Bool, true, false, cond, not, eqb, leb, List, [], ◌∷◌, Some, None, Option, option_map, refl, ap, subst, mul-zero, arith}
+use Rattle.std.proofs.Common.{◌≡◌, ℕ, ◌+◌, ◌*◌, ◌≤◌, true, false, cond, not, eqb, List, [], ◌∷◌, Some, None, Option, option_map, refl, ap, subst, mul-zero, arith}
 use Rattle.std.proofs.lemmas.Bool.{cond_both, eqb-true, not-false}
 use Rattle.std.proofs.lemmas.Bool.Decides.{nat_tests}
 use Rattle.std.specs.List.{position_from}
 use Rattle.accounts.specs.declared.record.Line.{Line}
 use Rattle.accounts.specs.declared.record.Record.{Record}
-use Rattle.accounts.specs.Ranges.{account_in_range, line_in_range, savings_in_range, within}
+use Rattle.accounts.specs.Ranges.{line_in_range}
 use Rattle.crediting.specs.Ranges.{is_class}
 use Rattle.ledger.specs.Records.{allocated, gaining, joining, is_closed, put, record_of, unallocated}
 use Rattle.ledger.specs.Rules.{share}
@@ -69,7 +69,7 @@ gain_tie units p k g u g' None e t =
     record { none = t.none; nothing = omega arith; unused = t.unused }
 gain_tie units p k g u g' (Some r) e t =
     held_tie p k g u g' u (r.held + share units r.percentage) r.last r
-    (λ o. let same : share units r.percentage ≡ share units p = ap (share units) o.allocation in omega (arith, o.holds)) t
+    (λ o. let same : share units r.percentage ≡ share units p = ap (share units) o.allocation in omega arith) t
 
 -- a request without a line of the account
 unallocated_tie : (p k g u : ℕ) (o : Option Record) → Tied p k g u o → Tied 0 k g u (option_map unallocated o)
@@ -107,11 +107,7 @@ pub entry_tie : (p k g u a i : ℕ) (o : Option Record) (ls : List Line) → pos
 entry_tie p k g u a i o [] ok t = unallocated_tie p k g u o t
 entry_tie p k g u a i o (l ∷ ls) ok t =
     let oks = nowhere i (λ x. not (line_in_range x)) l ls ok in
-    go (eqb l.account a) (line_tie p k g u l o (not-false _ oks.0) t) (entry_tie p k g u a (i + 1) o ls oks.1 t)
-  where
-    now : Option Record
-    now = option_map unallocated o
-
-    go : (b : Bool) → Tied l.percentage l.class g u (Some (placed l now)) → Tied (percentage_on a ls) (class_on a k ls) g u (entry a ls now) → Tied (cond b l.percentage (percentage_on a ls)) (cond b l.class (class_on a k ls)) g u (cond b (Some (placed l now)) (entry a ls now))
-    go true one rest = one
-    go false one rest = rest
+    let one = line_tie p k g u l o (not-false _ oks.0) t in
+    let rest = entry_tie p k g u a (i + 1) o ls oks.1 t in
+    elim (eqb l.account a) as (λ b. Tied (cond b l.percentage (percentage_on a ls)) (cond b l.class (class_on a k ls)) g u (cond b (Some (placed l (option_map unallocated o))) (entry a ls (option_map unallocated o))))
+    [ true ↦ one | false ↦ rest ]

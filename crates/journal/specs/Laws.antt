@@ -1,5 +1,5 @@
 -- The law of any run of a ledger over its history.
-use Rattle.std.specs.Prelude.{◌≡◌, ℕ, ◌+◌, ◌-◌, ◌≤◌, ◌≢◌, List, [], ◌∷◌, map, reverse, Result, sum_by}
+use Rattle.std.specs.Prelude.{◌≡◌, ℕ, ◌+◌, ◌-◌, ◌≤◌, ◌≢◌, List, [], ◌∷◌, map, reverse, Result, sum_by, fold}
 use Rattle.crediting.specs.Credits.{Credited}
 use Rattle.ledger.specs.declared.call.Call.{Call}
 use Rattle.ledger.specs.declared.call.Done.{Done}
@@ -14,9 +14,8 @@ use Rattle.journal.specs.Histories.{Event, History, billed, finally_billed, clos
 
 -- Performing calls one by one, each on what the ones before it left: the state after the last, and the answers.
 module _ {M : Type 0} (worth : M → ℕ → ℕ → ℕ) where
-  unfoldable pub after : State → List (Call M) → State
-  after s [] = s
-  after s (c ∷ cs) = after (step worth s c).state cs
+  abbrev pub after : State → List (Call M) → State
+  after s cs = fold (λ t c. (step worth t c).state) s cs
 
   unfoldable pub answers : State → List (Call M) → List (Result Done Refusal)
   answers s [] = []

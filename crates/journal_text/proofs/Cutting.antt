@@ -1,5 +1,5 @@
 -- A text is cut after its line feeds.
-use Rattle.std.proofs.Common.{◌≡◌, ℕ, zero, suc, ◌+◌, ◌-◌, ◌<◌, ◌≤◌, min, Bool, List, [], ◌∷◌, ◌++◌, length, get_or, take, drop, true, false, ◌==◌, refl, ap, subst, inl, inr, arith, append_assoc, Bor, Option, Some, None, Result, Ok, Err}
+use Rattle.std.proofs.Common.{◌≡◌, ℕ, zero, suc, ◌+◌, ◌-◌, ◌<◌, ◌≤◌, min, Bool, List, [], ◌∷◌, ◌++◌, length, get_or, take, drop, true, false, ◌==◌, refl, ap, subst, inl, inr, arith, append_assoc, Bor, Option, Result, Ok, Err}
 use Rattle.std.proofs.lemmas.List.{append-nil, length-append, get_or_append_left, take-append-le}
 use Rattle.std.proofs.Math.Seq.{drop-append_seam}
 use Rattle.std.proofs.Math.Nat.{eq-or-lt_of_le}
@@ -10,7 +10,6 @@ use Rattle.statements.specs.Meanings.{Meaning}
 use Rattle.statements.specs.declared.statement.ParseError.{ParseError}
 use Rattle.statements.specs.Results.{and_then}
 use Rattle.journal_text.specs.declared.entries.JournalFault.{JournalFault}
-use Rattle.journal_text.specs.declared.entries.JournalFault.TheVariants.{Line as at_line, NoMemory}
 use Rattle.journal_text.specs.Journals.{Text, lines_after, lines_of, some_line, without_feed, one_more, Read, Told}
 
 abbrev is_feed : ℕ → Bool
@@ -23,32 +22,26 @@ below b bs n none = λ k d l h. none (suc k) d (omega arith) (omega arith)
 -- up to the first line feed
 to_feed : (i : ℕ) (line text : List ℕ) → i < length text → AllWithin (λ b. is_feed b ≡ false) text 0 i → is_feed (get_or text i 0) ≡ true → lines_after line text ≡ (line ++ take i text) ∷ lines_after [] (drop (suc i) text)
 unfolding lines_after
-to_feed i line [] h none feed = absurd (omega (arith, h))
-to_feed zero line (b ∷ bs) h none feed = rw (feed, append-nil)
+to_feed i line [] h none feed = grind arith
+to_feed zero line (b ∷ bs) h none feed = grind (arith, append-nil)
 to_feed (suc i) line (b ∷ bs) h none feed =
     let other : is_feed b ≡ false = none 0 0 (omega arith) (omega arith) in
-    let more = to_feed i (line ++ b ∷ []) bs (omega (arith, h)) (below b bs i none) feed in
-    rw other (rw append_assoc at more)
+    grind (arith, to_feed i (line ++ b ∷ []) bs (omega (arith, h)) (below b bs i none) feed, append_assoc)
 
 -- to the end, where there is no line feed
 to_end : (line text : List ℕ) → AllWithin (λ b. is_feed b ≡ false) text 0 (length text) → lines_after line text ≡ some_line (line ++ text)
 unfolding lines_after
-to_end line [] none = rw append-nil
+to_end line [] none = grind (arith, append-nil)
 to_end line (b ∷ bs) none =
     let other : is_feed b ≡ false = none 0 0 (omega arith) (omega arith) in
-    let more = to_end (line ++ b ∷ []) bs (below b bs (length bs) none) in
-    rw other (rw append_assoc at more)
+    grind (arith, to_end (line ++ b ∷ []) bs (below b bs (length bs) none), append_assoc)
 
 -- a piece that ends in the first line feed
 feed_cut : (piece rest : List ℕ) (i : ℕ) → length piece ≡ suc i → IsFirstMatchOrLen is_feed (piece ++ rest) i → lines_of (piece ++ rest) ≡ without_feed piece ∷ lines_of rest
 feed_cut piece rest i h first =
     let inside : i < length (piece ++ rest) = omega (arith, length-append piece rest) in
-    let last : length piece - 1 ≡ i = omega arith in
-    let feed : is_feed (get_or piece i 0) ≡ true = subst (λ b. is_feed b ≡ true) (get_or_append_left piece rest 0 i (omega arith)) (first.1 inside 0) in
-    let front : take i (piece ++ rest) ≡ take i piece = take-append-le i piece rest (omega arith) in
-    let back : drop (suc i) (piece ++ rest) ≡ rest = subst (λ n. drop n (piece ++ rest) ≡ rest) h (drop-append_seam piece rest) in
     let cuts = to_feed i [] (piece ++ rest) inside first.0 (first.1 inside 0) in
-    rw last (rw feed (rw (front, back) at cuts))
+    grind (arith, cuts, first.1 inside 0, get_or_append_left piece rest 0 i (omega arith), take-append-le i piece rest (omega arith), drop-append_seam piece rest)
 
 -- a piece that has no line feed
 whole_cut : (piece : List ℕ) (i : ℕ) → 0 < length piece → length piece ≤ i → IsFirstMatchOrLen is_feed piece i → lines_of piece ≡ without_feed piece ∷ []
@@ -91,11 +84,8 @@ no_line (b ∷ bs) e = absurd (omega (arith, e))
 
 -- each line counts
 pub counted : (t : Text) (r : Result (Option Meaning) ParseError) (u : Text) → one_more t r ≡ Ok u → u.lines ≡ t.lines + 1
-counted t (Ok None) u e = grind (arith, e)
-counted t (Ok (Some m)) u e = grind (arith, e)
-counted t (Err why) u e = cc
+counted t r u e = grind arith
 
 -- a text is refused where a line is
 pub refused : (m : Result Text JournalFault) (f : JournalFault) (t : Text) (more : Text → Result Text JournalFault) → Read m (Err f) t → Told (and_then m more) (Err f)
-refused m (at_line mistake) t more h = rw h refl
-refused m NoMemory t more h = tt
+refused m f t more h = grind arith

@@ -1,6 +1,6 @@
 -- What the lines of a request make of the records.
-use Rattle.std.proofs.Common.{◌≡◌, ℕ, zero, suc, ◌+◌, ◌<◌, ◌≤◌, true, false, cond, not, ltb, List, [], ◌∷◌, ◌++◌, map, length, get_or, is_some, Some, None, Option, sym, refl, ap, ◌∙◌, arith, count_by}
-use Rattle.std.proofs.lemmas.Bool.{and_from, and_parts, lt-ltb, not-false}
+use Rattle.std.proofs.Common.{◌≡◌, ℕ, zero, suc, ◌+◌, ◌<◌, ◌≤◌, true, false, cond, not, List, [], ◌∷◌, ◌++◌, map, length, get_or, is_some, Some, None, Option, sym, refl, ap, ◌∙◌, arith, count_by}
+use Rattle.std.proofs.lemmas.Bool.{and_parts}
 use Rattle.std.proofs.lemmas.List.{length_push, map_push}
 use Rattle.std.proofs.lemmas.List.Sums.{sum_by-cons}
 use Rattle.std.proofs.lemmas.Bool.Decides.{nat_tests}
@@ -11,7 +11,7 @@ use Rattle.accounts.specs.declared.record.Line.{Line}
 use Rattle.accounts.specs.declared.record.Record.{Record}
 use Rattle.accounts.specs.Ranges.{in_range, line_in_range}
 use Rattle.ledger.specs.Lines.{joins, new_accounts, enter}
-use Rattle.ledger.proofs.Found.{present_found, accounts_put, put_length, nowhere}
+use Rattle.ledger.proofs.Found.{present_found, accounts_put, put_length}
 use Rattle.ledger.proofs.Scanning.{zero_line}
 use Rattle.ledger.specs.Records.{record_of, unallocated, allocated, joining}
 
@@ -31,9 +31,9 @@ joins_absent rs l p = ap (λ b. cond (not b) 1 0) p
 -- a new account is taken where there is room for it
 pub takes_joining : (rs : List Record) (room : ℕ) (l : Line) → line_in_range l ≡ true → length rs + joins rs l ≤ room → present l.account (accounts rs) ≡ false → takes rs room (joining l) ≡ true
 takes_joining rs room l k fits p =
-    let room-left : length rs < room = omega (arith, joins_absent rs l p) in
-    and_from (ltb (length rs) room) _ (lt-ltb (length rs) room room-left)
-    (and_from (in_range (joining l)) (not (present l.account (accounts rs))) (joining_in_range l k) (ap not p))
+    let one = joins_absent rs l p in
+    let ranged = joining_in_range l k in
+    grind (arith, nat_tests)
 
 push_new : (rs : List Record) (r : Record) (ls : List Line) → new_accounts (rs ++ r ∷ []) ls ≤ new_accounts rs ls
 push_new rs r [] = omega arith
@@ -59,8 +59,8 @@ enter_fits rs l ls room (Some r) e h =
 pub none_out : (i : ℕ) (ls : List Line) → position_from (λ l. not (line_in_range l)) i ls ≡ None → every line_in_range ls ≡ true
 none_out i [] e = refl
 none_out i (l ∷ ls) e =
-    let n = nowhere i (λ (x : Line). not (line_in_range x)) l ls e in
-    and_from (line_in_range l) (every line_in_range ls) (not-false (line_in_range l) n.0) (none_out (i + 1) ls n.1)
+    let ih = none_out (i + 1) ls in
+    grind arith
 
 pub every_at : (ls : List Line) (i : ℕ) → i < length ls → every line_in_range ls ≡ true → line_in_range (get_or ls i zero_line) ≡ true
 every_at [] i h e = absurd (omega arith)

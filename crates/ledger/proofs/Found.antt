@@ -1,5 +1,5 @@
 -- The record of an account in a list of records, after one is put in its place, all are changed, or one joins.
-use Rattle.std.proofs.Common.{◌≡◌, ℕ, ◌+◌, ◌≤◌, Bool, true, false, cond, eqb, List, [], ◌∷◌, ◌++◌, map, length, is_some, Some, None, option_map, refl, arith, sum_by}
+use Rattle.std.proofs.Common.{◌≡◌, ℕ, ◌+◌, ◌≤◌, Bool, false, cond, eqb, List, [], ◌∷◌, ◌++◌, map, length, is_some, Some, None, option_map, refl, arith, sum_by}
 use Rattle.std.proofs.lemmas.Bool.Decides.{nat_tests}
 use Rattle.std.proofs.lemmas.List.Sums.{sum_by-cons}
 use Rattle.std.specs.List.{position_from}
@@ -54,8 +54,4 @@ accounts_put n (r ∷ rs) = let ih = accounts_put n rs in grind (arith, nat_test
 
 -- a test that passes nowhere
 pub nowhere : {X : Type 0} (i : ℕ) (test : X → Bool) (x : X) (xs : List X) → position_from test i (x ∷ xs) ≡ None → (test x ≡ false) × (position_from test (i + 1) xs ≡ None)
-nowhere i test x xs = go (test x)
-  where
-    go : (b : Bool) → cond b (Some i) (position_from test (i + 1) xs) ≡ None → (b ≡ false) × (position_from test (i + 1) xs ≡ None)
-    go true e = cc
-    go false e = (refl, e)
+nowhere i test x xs e = (grind arith, grind arith)

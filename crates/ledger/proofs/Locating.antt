@@ -1,8 +1,8 @@
 -- A search's place, and the record of the account that was sought.
-use Rattle.std.proofs.Common.{◌≡◌, ℕ, suc, ◌+◌, ◌-◌, ◌≤◌, true, false, eqb, List, [], ◌∷◌, set, is_some, Some, None, Option, sym, refl, ap, ◌∙◌, subst, ⊎_elim, arith, eq-eqb, eqb-true}
-use Rattle.std.proofs.lemmas.Bool.{both_ways, cases_Bool, cond-true, cond-false}
+use Rattle.std.proofs.Common.{◌≡◌, ℕ, zero, suc, ◌+◌, ◌≤◌, false, List, [], ◌∷◌, set, is_some, Some, None, Option, sym, refl, ap, ◌∙◌, arith, zero-add}
+use Rattle.std.proofs.lemmas.Bool.{both_ways}
+use Rattle.std.proofs.lemmas.Bool.Decides.{nat_tests}
 use Rattle.std.specs.List.{slice_get}
-use Rattle.std.proofs.lemmas.Option.{none-some}
 use Rattle.accounts.proofs.Answering.{suits_same}
 use Rattle.accounts.proofs.Finding.{found_present}
 use Rattle.accounts.proofs.Keeping.{every_nth}
@@ -10,75 +10,55 @@ use Rattle.accounts.specs.declared.record.Record.{Record}
 use Rattle.accounts.specs.Books.{accounts, find_from, find, Proper}
 use Rattle.accounts.specs.Ranges.{in_range}
 use Rattle.ledger.specs.Records.{record_of, put, Located}
-use Rattle.ledger.proofs.Found.{present_found}
+use Rattle.ledger.proofs.Found.{found_account, present_found}
 
--- what stands at a place that a search gave
-record Found (rs : List Record) (a i : ℕ) : Type 0 where
-  found : Record
-  at : slice_get rs i ≡ Some found
-  told : record_of a rs ≡ Some found
-  whose : found.account ≡ a
-  puts : (new : Record) → new.account ≡ a → set rs i new ≡ put new rs
+-- a search from j on finds no place before it
+found_past : (a j i : ℕ) (rs : List Record) → find_from j a (accounts rs) ≡ Some i → j ≤ i
+found_past a j i [] e = cc
+found_past a j i (x ∷ rs) e = let ih = found_past a (j + 1) i rs in grind (arith, nat_tests)
 
-found_here : (x : Record) (rs : List Record) (a : ℕ) → eqb x.account a ≡ true → Found (x ∷ rs) a 0
-found_here x rs a e =
-    let same = eqb-true x.account a e in
-    record {
-      found = x;
-      at = refl;
-      told = cond-true (eqb x.account a) (Some x) (record_of a rs) e;
-      whose = same;
-      puts = λ new w. sym (cond-true (eqb x.account new.account) (new ∷ rs) (x ∷ put new rs) (eq-eqb x.account new.account (omega arith)));
-    }
+-- the record that a search from j on found k places further is the account's
+found_told : (a j k : ℕ) (rs : List Record) (r : Record) → find_from j a (accounts rs) ≡ Some (j + k) → slice_get rs k ≡ Some r → record_of a rs ≡ Some r
+found_told a j k [] r e n = cc
+found_told a j zero (x ∷ rs) r e n = let past = found_past a (j + 1) (j + 0) rs in grind (arith, nat_tests)
+found_told a j (suc k) (x ∷ rs) r e n =
+    let shift : j + suc k ≡ j + 1 + k = omega arith in
+    let ih = found_told a (j + 1) k rs r in
+    grind (arith, nat_tests)
 
-found_later : (x : Record) (rs : List Record) (a i : ℕ) → eqb x.account a ≡ false → Found rs a i → Found (x ∷ rs) a (suc i)
-found_later x rs a i e f =
-    record {
-      found = f.found;
-      at = f.at;
-      told = cond-false (eqb x.account a) (Some x) (record_of a rs) e ∙ f.told;
-      whose = f.whose;
-      puts = λ new w.
-          ap (λ ys. x ∷ ys) (f.puts new w)
-          ∙ sym (cond-false (eqb x.account new.account) (new ∷ rs) (x ∷ put new rs) (subst (λ b. eqb x.account b ≡ false) (sym w) e));
-    }
+found_put : (a j k : ℕ) (rs : List Record) (new : Record) → find_from j a (accounts rs) ≡ Some (j + k) → new.account ≡ a → set rs k new ≡ put new rs
+found_put a j k [] new e w = cc
+found_put a j zero (x ∷ rs) new e w = let past = found_past a (j + 1) (j + 0) rs in grind (arith, nat_tests)
+found_put a j (suc k) (x ∷ rs) new e w =
+    let shift : j + suc k ≡ j + 1 + k = omega arith in
+    let ih = found_put a (j + 1) k rs new in
+    grind (arith, nat_tests)
 
-found_from : (a j i : ℕ) (rs : List Record) → find_from j a (accounts rs) ≡ Some i → (j ≤ i) × Found rs a (i - j)
-found_from a j i [] e = cc
-found_from a j i (x ∷ rs) e =
-    ⊎_elim
-    (λ (t : eqb x.account a ≡ true).
-    let same : Some j ≡ Some i = sym (cond-true (eqb x.account a) (Some j) (find_from (j + 1) a (accounts rs)) t) ∙ e in
-    let eq : j ≡ i = cc in
-    (omega arith, subst (Found (x ∷ rs) a) (omega arith) (found_here x rs a t)))
-    (λ (f : eqb x.account a ≡ false).
-    let more : find_from (j + 1) a (accounts rs) ≡ Some i = sym (cond-false (eqb x.account a) (Some j) (find_from (j + 1) a (accounts rs)) f) ∙ e in
-    let ih = found_from a (j + 1) i rs more in
-    let le : j + 1 ≤ i = ih.0 in
-    (omega arith, subst (Found (x ∷ rs) a) (omega arith) (found_later x rs a (i - (j + 1)) f ih.1)))
-    (cases_Bool (eqb x.account a))
-
-found_at : (a i : ℕ) (rs : List Record) → find a (accounts rs) ≡ Some i → Found rs a i
-found_at a i rs e = subst (Found rs a) (omega arith) (found_from a 0 i rs e).1
+found_is : (a j k : ℕ) (rs : List Record) → find_from j a (accounts rs) ≡ Some (j + k) → slice_get rs k ≡ None → ⊥
+found_is a j k [] e n = cc
+found_is a j zero (x ∷ rs) e n = cc
+found_is a j (suc k) (x ∷ rs) e n =
+    let shift : j + suc k ≡ j + 1 + k = omega arith in
+    let ih = found_is a (j + 1) k rs in
+    grind (arith, nat_tests)
 
 -- where a search gave a place, the record there is the account's
 pub located : (a i room : ℕ) (rs : List Record) (r : Record) → Proper rs room → find a (accounts rs) ≡ Some i → slice_get rs i ≡ Some r → Located rs a i r
 located a i room rs r p e n =
-    let f = found_at a i rs e in
-    let fat = f.at in
-    let same : f.found ≡ r = cc in
-    let whose = ap (λ x. x.account) (sym same) ∙ f.whose in
+    let here : find_from 0 a (accounts rs) ≡ Some (0 + i) = rw zero-add e in
+    let told = found_told a 0 i rs r here n in
+    let whose = found_account a rs r told in
     record {
-      told = f.told ∙ ap Some same;
+      told = told;
       ranged = every_nth in_range rs i r p.ranged n;
       whose = whose;
       fitting = λ new w k. suits_same rs i new r n (whose ∙ sym w) k;
-      putting = λ new w. f.puts new w;
+      putting = λ new w. found_put a 0 i rs new here w;
     }
 
 -- and there is a record
 pub found_some : (a i : ℕ) (rs : List Record) → find a (accounts rs) ≡ Some i → slice_get rs i ≡ None → ⊥
-found_some a i rs e n = let f = found_at a i rs e in none-some f.found (sym n ∙ f.at)
+found_some a i rs e n = found_is a 0 i rs (rw zero-add e) n
 
 -- a record of a book is in range
 pub in_book : (i room : ℕ) (rs : List Record) (r : Record) → Proper rs room → slice_get rs i ≡ Some r → false ≡ in_range r → ⊥

@@ -1,10 +1,10 @@
 -- A loop over the records of a reading.
-use Rattle.std.proofs.Common.{◌≡◌, ℕ, suc, ◌+◌, ◌*◌, ◌<◌, ◌≤◌, Bool, true, false, ◌||◌, ltb, List, ◌∷◌, drop, Some, sym, ap, ◌∙◌, ⊎_elim, subst, add-one, mul-add, arith, sum_by}
-use Rattle.std.proofs.lemmas.Bool.{both_ways, cases_Bool, lt-ltb, or_left, or_right, or_parts}
+use Rattle.std.proofs.Common.{◌≡◌, ℕ, ◌+◌, ◌*◌, ◌<◌, ◌≤◌, Bool, true, false, ltb, List, ◌∷◌, drop, Some, ap, ◌∙◌, subst, mul-add, arith, sum_by}
+use Rattle.std.proofs.lemmas.Bool.{or_parts}
 use Rattle.std.proofs.lemmas.List.Folds.{list_any_at}
 use Rattle.std.proofs.lemmas.List.Sums.{sum_by-cons}
 use Rattle.std.proofs.lemmas.Option.{get_or_from_slice_get, slice_get_within}
-use Rattle.std.proofs.Math.Seq.{drop-cons}
+use Rattle.std.proofs.lemmas.List.{drop_more}
 use Rattle.std.proofs.lemmas.Bool.Decides.{nat_tests}
 use Rattle.std.specs.List.{list_any, slice_get}
 use Rattle.accounts.specs.declared.record.Record.{Record}
@@ -19,7 +19,7 @@ shared_within units percentages shared percentage gain e h = omega (arith, mul-a
 
 -- what a place has is the first of what is left from it on
 drop_nth : {X : Type 0} (xs : List X) (i : ℕ) (x : X) → slice_get xs i ≡ Some x → drop i xs ≡ x ∷ drop (i + 1) xs
-drop_nth xs i x e = rw add-one (drop-cons xs i x (slice_get_within xs i x e) ∙ ap (λ y. y ∷ drop (suc i) xs) (get_or_from_slice_get xs i x x e))
+drop_nth xs i x e = drop_more xs i x (slice_get_within xs i x e) ∙ ap (λ y. y ∷ drop (i + 1) xs) (get_or_from_slice_get xs i x x e)
 
 -- an account would pass the units that it may hold
 abbrev pub overfull : ℕ → Record → Bool
@@ -46,23 +46,24 @@ module _ (units percentages shared : ℕ) (rs : List Record) (i : ℕ) where
       record {
         percents = omega (arith, k.percents);
         gains = omega (arith, k.gains);
-        full = sym (ap (λ b. b || list_any (overfull units) (drop (i + 1) rs)) o) ∙ k.full;
+        full = grind arith;
       }
 
   pub past_whole : (r : Record) → slice_get rs i ≡ Some r → LeftAt → 100000 < percentages + r.percentage → foreign_to_reading units rs ≡ true
-  past_whole r e h o = or_left _ (list_any (overfull units) rs) (lt-ltb 100000 (sum_by (λ (x : Record). x.percentage) rs) (omega (arith, (at_record r e h).percents, sum_by-cons (λ (x : Record). x.percentage) r (drop (i + 1) rs))))
+  past_whole r e h o =
+      let k = at_record r e h in
+      let percents = sum_by-cons (λ (x : Record). x.percentage) r (drop (i + 1) rs) in
+      grind (arith, nat_tests)
 
   pub past_holding : (r : Record) → slice_get rs i ≡ Some r → LeftAt → overfull units r ≡ true → foreign_to_reading units rs ≡ true
-  past_holding r e h o = or_right _ _ (sym (at_record r e h).full ∙ ap (λ b. b || list_any (overfull units) (drop (i + 1) rs)) o)
+  past_holding r e h o = let k = at_record r e h in grind arith
 
 -- where the book is the ledger's own, no account passes what it may hold
 not_overfull : (units : ℕ) (rs : List Record) (i : ℕ) (r : Record) → list_any (overfull units) rs ≡ false → slice_get rs i ≡ Some r → overfull units r ≡ false
 not_overfull units rs i r h e =
     let here = get_or_from_slice_get rs i r r e in
-    ⊎_elim
-    (λ (t : overfull units r ≡ true). absurd (both_ways _ h (list_any_at (overfull units) rs i r (slice_get_within rs i r e) (ap (overfull units) here ∙ t))))
-    (λ (f : overfull units r ≡ false). f)
-    (cases_Bool (overfull units r))
+    let any = list_any_at (overfull units) rs i r (slice_get_within rs i r e) in
+    grind arith
 
 pub gains_in_range : (units : ℕ) (rs : List Record) (i : ℕ) (r : Record) → foreign_to_reading units rs ≡ false → slice_get rs i ≡ Some r → in_range r ≡ true → in_range (gaining units r) ≡ true
 gains_in_range units rs i r h e k =

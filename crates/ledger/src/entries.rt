@@ -24,6 +24,7 @@ pub(crate) fn entry_at<B: AccountBook>(book: &B, place: usize) -> Option<Entry>
 }
 
 // The record of an account that is open.
+#[tactic(auto, using(crate::proofs::Locating::missing))]
 pub(crate) fn open_entry<B: AccountBook>(book: &B, account: u64) -> Result<Entry, Refusal>
     ensures { B.sound book.now → Sought (B.contents book.now).records account result }
 {

@@ -71,6 +71,7 @@ pub(crate) fn first_closed<B: AccountBook>(book: &B, lines: &[Line]) -> Option<u
 }
 
 // Whether a line's account is closed.
+#[tactic(auto, using(crate::proofs::Locating::missing))]
 fn is_closed<B: AccountBook>(book: &B, line: &Line) -> bool
     ensures { B.sound book.now → result ≡ names_closed (B.contents book.now).records line.now }
 {
@@ -89,6 +90,7 @@ pub(crate) fn new_accounts<B: AccountBook>(book: &B, lines: &[Line]) -> usize
 }
 
 // Whether the book lacks a line's account.
+#[tactic(auto, using(accounts::proofs::Finding::found_present))]
 fn is_new<B: AccountBook>(book: &B, line: &Line) -> bool
     ensures { B.sound book.now → result ≡ is_new (B.contents book.now).records line.now }
 {

@@ -1,11 +1,13 @@
 -- Encoding and decoding are each other's inverse on records in range.
-use Rattle.std.proofs.Common.{◌≡◌, ℕ, ◌+◌, ◌^◌, ◌<◌, ◌≤◌, true, eqb, List, [], ◌∷◌, ◌++◌, length, get_or, drop, replicate, Some, None, Option, sym, refl, ap, ◌∙◌, ⊎_elim, arith}
+use Rattle.std.proofs.Common.{◌≡◌, ℕ, ◌+◌, ◌^◌, ◌<◌, ◌≤◌, Bool, true, false, cond, eqb, List, [], ◌∷◌, ◌++◌, length, get_or, drop, replicate, Some, None, Option, sym, refl, ap, ◌∙◌, ⊎_elim, arith}
 use Rattle.std.proofs.lemmas.Bool.{and_from, and_parts, eq-eqb, eqb-true, cond-true, cond_both, cases_lt}
 use Rattle.std.proofs.lemmas.Bool.Decides.{nat_tests}
 use Rattle.std.proofs.lemmas.List.{take-append-drop, drop-drop, length-take-le, length-drop, drop_more, drop_all, get_or_past}
 use Rattle.std.proofs.lemmas.List.Elements.{All-take, All-drop}
 use Rattle.std.proofs.lemmas.Nat.{from_le_bytes-to_le_bytes_2, from_le_bytes-to_le_bytes_4, from_le_bytes-to_le_bytes_8, le_bytes_2, le_bytes_4, le_bytes_8}
 use Rattle.std.proofs.lemmas.Slice.Eq.{bytes_eq-Decides}
+use Rattle.std.proofs.lemmas.Option.{cond_some, none-some}
+use Rattle.std.specs.Bool.{then_some}
 use Rattle.std.specs.Int.{w16, w32, w64, to_le_bytes, from_le_bytes}
 use Rattle.std.specs.List.{All}
 use Rattle.std.specs.Str.{bytes_eq}
@@ -52,19 +54,7 @@ pub decoded_holds : (bs : List ℕ) (r : Record) → Holds bs r → decoded bs �
 unfolding fields_in
 decoded_holds bs r h =
     let t = and_from (eqb (length bs) 36) (bytes_eq (part 30 6 bs) (replicate 6 0)) (eq-eqb (length bs) 36 h.bytes) ((bytes_eq-Decides (part 30 6 bs) (replicate 6 0)).1 h.filler) in
-    let z = h.size in
-    let k = h.kind in
-    let s = h.state in
-    let m : marked (size_of (get_or bs 15 0)) (kind_of (get_or bs 16 0)) (state_of (get_or bs 17 0)) bs ≡ ranged (fields r.size r.kind r.state bs) = rw (z, k, s) in
-    let a = h.account in
-    let p = h.percentage in
-    let v = h.savings in
-    let c = h.class in
-    let u = h.held in
-    let l = h.last in
-    let f : fields r.size r.kind r.state bs ≡ r = rw (a, p, v, c, u, l) in
-    cond-true (framed bs) (marked (size_of (get_or bs 15 0)) (kind_of (get_or bs 16 0)) (state_of (get_or bs 17 0)) bs) None t
-    ∙ (m ∙ ap ranged f)
+    cond-true (framed bs) _ None t ∙ rw (h.size, h.kind, h.state, h.account, h.percentage, h.savings, h.class, h.held, h.last) refl
 
 size_letter_of : (b : ℕ) (z : Size) → size_of b ≡ Some z → size_letter z ≡ b
 size_letter_of b Small h = grind (arith, nat_tests)
@@ -119,18 +109,21 @@ holds_encoded r h =
       last = from_le_bytes-to_le_bytes_4 r.last f.last;
     }
 
+-- what is answered of numbers that are in range or not
+pub holds_told : (bs : List ℕ) (r : Record) (ok : Bool) → Holds bs r → ok ≡ in_range r → then_some ok r ≡ decoded bs
+holds_told bs r true h e = ap (λ b. cond b (Some r) None) e ∙ sym (decoded_holds bs r h)
+holds_told bs r false h e = ap (λ b. cond b (Some r) None) e ∙ sym (decoded_holds bs r h)
+
 pub decoded_encoded : (r : Record) → in_range r ≡ true → decoded (encoded r) ≡ Some r
 decoded_encoded r h = decoded_holds (encoded r) r (holds_encoded r h) ∙ cond-true (in_range r) (Some r) None h
 
-nothing : {X : Type 0} {Y : Type 0} (x : X) → None ≡ Some x → Y
-nothing x e = let z : ◌≡◌ {A = ℕ} 0 1 = cc in absurd (omega arith)
-
 module _ (bs : List ℕ) (r : Record) (n : length bs ≡ 36) (w : part 30 6 bs ≡ replicate 6 0) where
-  from_ranged : (z : Size) (k : Kind) (s : State) → size_of (get_or bs 15 0) ≡ Some z → kind_of (get_or bs 16 0) ≡ Some k → state_of (get_or bs 17 0) ≡ Some s → ranged (fields z k s bs) ≡ Some r → Holds bs r
-  from_ranged z k s ez ek es =
-      cond_both (in_range (fields z k s bs)) (Some (fields z k s bs)) None (λ o. o ≡ Some r → Holds bs r)
-      (λ i e.
-      let f : fields z k s bs ≡ r = cc in
+  from_marked : (z : Option Size) (k : Option Kind) (s : Option State) → size_of (get_or bs 15 0) ≡ z → kind_of (get_or bs 16 0) ≡ k → state_of (get_or bs 17 0) ≡ s → marked z k s bs ≡ Some r → Holds bs r
+  from_marked None k s ez ek es e = absurd (none-some r e)
+  from_marked (Some z) None s ez ek es e = absurd (none-some r e)
+  from_marked (Some z) (Some k) None ez ek es e = absurd (none-some r e)
+  from_marked (Some z) (Some k) (Some s) ez ek es e =
+      let f : fields z k s bs ≡ r = (cond_some _ _ _ e).1 in
       record {
         bytes = n;
         filler = w;
@@ -143,14 +136,7 @@ module _ (bs : List ℕ) (r : Record) (n : length bs ≡ 36) (w : part 30 6 bs �
         state = es ∙ ap (λ x. Some x.state) f;
         held = ap (λ x. x.held) f;
         last = ap (λ x. x.last) f;
-      })
-      (λ _ e. nothing r e)
-
-  from_marked : (z : Option Size) (k : Option Kind) (s : Option State) → size_of (get_or bs 15 0) ≡ z → kind_of (get_or bs 16 0) ≡ k → state_of (get_or bs 17 0) ≡ s → marked z k s bs ≡ Some r → Holds bs r
-  from_marked None k s ez ek es e = nothing r e
-  from_marked (Some z) None s ez ek es e = nothing r e
-  from_marked (Some z) (Some k) None ez ek es e = nothing r e
-  from_marked (Some z) (Some k) (Some s) ez ek es e = from_ranged z k s ez ek es e
+      }
 
 pub holds_decoded : (bs : List ℕ) (r : Record) → decoded bs ≡ Some r → Holds bs r
 unfolding fields_in
@@ -159,7 +145,7 @@ holds_decoded bs r =
     (λ t e.
     let p = and_parts (eqb (length bs) 36) (bytes_eq (part 30 6 bs) (replicate 6 0)) t in
     from_marked bs r (eqb-true (length bs) 36 p.0) ((bytes_eq-Decides (part 30 6 bs) (replicate 6 0)).0 p.1) (size_of (get_or bs 15 0)) (kind_of (get_or bs 16 0)) (state_of (get_or bs 17 0)) refl refl refl e)
-    (λ _ e. nothing r e)
+    (λ _ e. absurd (none-some r e))
 
 -- bytes are below 256 wherever they are read
 below : (xs : List ℕ) → All (λ b. b < 256) xs → (i : ℕ) → get_or xs i 0 < 256
@@ -206,10 +192,14 @@ module _ (bs : List ℕ) (small : All (λ b. b < 256) bs) where
 
 -- what decodes is in range
 pub in_range_decoded : (bs : List ℕ) (r : Record) → decoded bs ≡ Some r → in_range r ≡ true
-in_range_decoded bs r e =
-    cond_both (in_range r) (Some r) None (λ o. o ≡ Some r → in_range r ≡ true) (λ i _. i) (λ _ f. nothing r f)
-    (sym (decoded_holds bs r (holds_decoded bs r e)) ∙ e)
+in_range_decoded bs r e = (cond_some _ _ _ (sym (decoded_holds bs r (holds_decoded bs r e)) ∙ e)).0
 
 pub length_encoded : (r : Record) → length (encoded r) ≡ 36
 unfolding encoded
 length_encoded r = refl
+
+-- no other bytes decode to a record
+pub only_encoded : (r : Record) (bs : List ℕ) → All (λ b. b < 256) bs → decoded bs ≡ Some r → bs ≡ encoded r
+only_encoded r bs small e = sym (encoded_from bs small r (holds_decoded bs r e))
+
+pub ruleset inverse = (decoded_encoded, only_encoded)

@@ -1,11 +1,10 @@
 -- Judging what is to be packed, and how long the file is.
-use Rattle.std.proofs.Common.{◌≡◌, ℕ, ◌+◌, ◌*◌, ◌<◌, ◌≤◌, true, false, cond, ◌||◌, eqb, leb, ltb, List, [], ◌∷◌, map, length, get_or, drop, Ok, Err, Result, refl, ◌∙◌, arith}
+use Rattle.std.proofs.Common.{◌≡◌, ℕ, ◌+◌, ◌*◌, ◌<◌, ◌≤◌, cond, leb, ltb, List, [], ◌∷◌, map, length, get_or, drop, Ok, Err, refl, arith}
 use Rattle.std.specs.List.{flat_map}
 use Rattle.std.proofs.lemmas.List.{length-append, length-map, drop_more, drop_all}
-use Rattle.std.proofs.lemmas.Bool.{le-ltb, ne_eqb, or_from}
+use Rattle.std.proofs.lemmas.Bool.Decides.{nat_tests}
 use Rattle.requests.specs.Form.{then}
 use Rattle.request_writer.specs.declared.entry.Entry.{Entry}
-use Rattle.request_writer.specs.declared.refusal.WriteRefusal.{WriteRefusal}
 use Rattle.request_writer.specs.declared.refusal.WriteRefusal.TheVariants as refusal
 use Rattle.request_writer.specs.Packing.{Item, item, holds, text, pairs, file_of, items_from, packing, sized}
 use Rattle.request_writer.proofs.Packs.{length_behind_most}
@@ -30,18 +29,13 @@ length_file es =
 abbrev pub bytes : List Entry → ℕ
 bytes es = 2 + 6 * length es + length (flat_map text (map item es))
 
-sized_then : (file : List ℕ) (r : Result (Unit {0}) WriteRefusal) → sized (then r (λ _. cond (ltb 65535 (length file)) (Err refusal.FileLength) (Ok file))) ≡ then r (λ _. cond (ltb 65535 (length file)) (Err refusal.FileLength) (Ok (length file)))
-sized_then file (Err fault) = refl
-sized_then file (Ok u) =
-    elim (ltb 65535 (length file)) as (λ b. sized (cond b (Err refusal.FileLength) (Ok file)) ≡ cond b (Err refusal.FileLength) (Ok (length file))) [ true ↦ refl | false ↦ refl ]
-
 -- what is judged once the number of lines is possible
 pub packing_judged : (es : List Entry) → 1 ≤ length es → length es ≤ 1024 → sized (packing (map item es)) ≡ then (items_from 0 (map item es)) (λ _. cond (ltb 65535 (bytes es)) (Err refusal.FileLength) (Ok (bytes es)))
 unfolding packing
 packing_judged es some few =
-    let long : length (file_of (map item es)) ≡ bytes es = length_file (map item es) ∙ (rw length-map) in
-    let counts : (eqb (length (map item es)) 0 || ltb 1024 (length (map item es))) ≡ false = rw length-map (or_from (eqb (length es) 0) _ (ne_eqb (length es) 0 (λ none. omega arith)) (le-ltb 1024 (length es) few)) in
-    rw counts (rw (sized_then (file_of (map item es)) (items_from 0 (map item es)), long))
+    let long = length_file (map item es) in
+    let count = length-map es item in
+    grind (arith, nat_tests)
 
 -- the entry at i and those behind it
 pub items_step : (es : List Entry) (i : ℕ) (d : Entry) → i < length es → items_from i (map item (drop i es)) ≡ cond (holds (get_or es i d).line) (cond (leb (length (get_or es i d).remark.now) 79) (items_from (i + 1) (map item (drop (i + 1) es))) (Err (refusal.Remark i))) (Err (refusal.Number i))

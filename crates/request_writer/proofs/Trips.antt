@@ -1,5 +1,5 @@
 -- Reading what was packed gives it back.
-use Rattle.std.proofs.Common.{◌≡◌, ℕ, zero, suc, ◌+◌, ◌-◌, ◌*◌, ◌<◌, ◌≤◌, true, List, [], ◌∷◌, ◌++◌, map, length, get_or, drop, Some, IsOk, Ok, Err, Result, sym, refl, ap, ◌∙◌, add-zero, zero-add, arith}
+use Rattle.std.proofs.Common.{◌≡◌, ℕ, zero, suc, ◌+◌, ◌-◌, ◌*◌, ◌<◌, ◌≤◌, true, List, [], ◌∷◌, ◌++◌, map, length, get_or, drop, Some, IsOk, Ok, sym, refl, ap, ◌∙◌, add-zero, zero-add, arith}
 use Rattle.std.specs.List.{flat_map}
 use Rattle.std.specs.Option.{option_map}
 use Rattle.std.proofs.lemmas.List.{append-nil, length-append, length-map, drop-drop, drop_at, take_at}
@@ -8,9 +8,8 @@ use Rattle.std.proofs.lemmas.Bool.{lt-ltb}
 use Rattle.std.proofs.lemmas.Bool.Decides.{nat_tests}
 use Rattle.accounts.specs.declared.record.Line.{Line}
 use Rattle.requests.specs.Meaning.{pair_at, fits, pairs_from, line_at, lines_from, count, meaning, remark_of, remark_at}
-use Rattle.request_writer.specs.declared.refusal.WriteRefusal.{WriteRefusal}
 use Rattle.request_writer.specs.declared.entry.Entry.{Entry}
-use Rattle.request_writer.specs.Packing.{Item, item, form, digits, text, holds, pairs, file_of, items_from, packing, sized, ReadsBack}
+use Rattle.request_writer.specs.Packing.{Item, item, form, digits, text, holds, pairs, file_of, items_from, packing, ReadsBack}
 use Rattle.request_writer.proofs.Texts.{length_text}
 use Rattle.request_writer.proofs.Checks.{size, length_file, length_pairs, text_most}
 use Rattle.request_writer.proofs.Fields.{text_back}
@@ -54,22 +53,14 @@ lines_back file k at p (e ∷ es) s h =
     let split = items_split p e es h in
     rw (line_here file s.1.0 k at e s.0 s.1.1 split.0, lines_back file (k + 1) (at + length (text e)) (p + 1) es s.2 split.1)
 
--- what stands behind byte 30 of a line
-tail_back : (l : Line) (b : ℕ) (r more : List ℕ) → drop 31 (text (l, b ∷ r) ++ more) ≡ (b ∷ r) ++ more
-unfolding text form digits
-tail_back l b r more = refl
-
 -- the remark of a line that stands in the file
 remark_here : (file more : List ℕ) (at : ℕ) (l : Line) (r : List ℕ) → drop at file ≡ text (l, r) ++ more → (remark_of file (record { offset = at; length = length (text (l, r)) })).0 ≡ r
-remark_here file more at l [] there =
-    let long : length (text (l, [])) ≡ 30 = length_text (l, []) in
-    let none : at + 30 - (at + 30) ≡ 0 = omega arith in
-    rw (long, none)
+unfolding text form digits
+remark_here file more at l [] there = let none : at + 30 - (at + 30) ≡ 0 = omega arith in rw none
 remark_here file more at l (b ∷ r) there =
     let n = length (text (l, b ∷ r)) in
-    let long : n ≡ 31 + length (b ∷ r) = length_text (l, b ∷ r) ∙ omega arith in
     let past : at + n - (at + 31) ≡ length (b ∷ r) = omega arith in
-    let behind-form : drop (at + 31) file ≡ (b ∷ r) ++ more = sym (drop-drop 31 at file) ∙ ap (drop 31) there ∙ tail_back l b r more in
+    let behind-form : drop (at + 31) file ≡ (b ∷ r) ++ more = sym (drop-drop 31 at file) ∙ ap (drop 31) there in
     rw (lt-ltb 30 n (omega arith), past, behind-form) (take_at (b ∷ r) more (length (b ∷ r)) refl)
 
 remarks_back : (file : List ℕ) (k at i : ℕ) (d : Item) (es : List Item) → Stands file k at es → i < length es → (remark_of file (pair_at file (k + i))).0 ≡ (get_or es i d).1
@@ -142,7 +133,3 @@ pub numbers_at : (p : ℕ) (es : List Entry) → items_from p (map item es) ≡ 
 numbers_at p [] h k d l = absurd (omega arith)
 numbers_at p (e ∷ es) h zero d l = (items_split p (item e) (map item es) h).0.numbers
 numbers_at p (e ∷ es) h (suc k) d l = numbers_at (p + 1) es (items_split p (item e) (map item es) h).1 k d (omega arith)
-
-pub refused_by_size : (r : Result (List ℕ) WriteRefusal) (e : WriteRefusal) → Err e ≡ sized r → r ≡ Err e
-refused_by_size (Ok file) e h = cc
-refused_by_size (Err f) e h = cc

@@ -7,6 +7,7 @@ use accounts::record::Line;
 use std::alloc::{AllocError, Global};
 
 // The thirty bytes of a line's fields.
+#[tactic(auto, using(crate::proofs::Padded::form_padded))]
 fn form_text(line: &Line, heap: Global) -> Result<String, AllocError>
     requires { IsTrue (holds line.now) }
     ensures { IfOk result (λ text. string_bytes text ≡ form line.now) }

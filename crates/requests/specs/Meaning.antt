@@ -10,7 +10,8 @@ use Rattle.requests.specs.declared.fault.RequestRefusal.TheVariants as refusal
 use Rattle.requests.specs.declared.pairs.Pair.{Pair}
 use Rattle.requests.specs.Form.{then, line_of}
 
--- After the line count of two bytes stand the pairs: an offset of four bytes and a length of two, the lowest byte first.
+-- After the line count of two bytes stand the pairs: an offset of four bytes and a length of two. The lowest byte of
+-- each number comes first.
 unfoldable pub pair_at : List ℕ → ℕ → Pair
 pair_at file place =
     let at = 2 + 6 * place in

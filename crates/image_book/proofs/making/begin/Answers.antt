@@ -1,8 +1,7 @@
-use Rattle.std.proofs.Common.{true, false, sym, subst}
+use Rattle.std.proofs.Common.{true, false, sym}
 use Rattle.std.specs.Int.{w32, to_le_bytes}
 use Rattle.record_codec.specs.Bytes.{written}
 use Rattle.image_book.specs.Images.{capacity_of}
-use Rattle.image_book.specs.Reading.{Reads}
 use Rattle.image_book.proofs.Opening.{start_err, reads_lacking, reads_open}
 use Rattle.image_book.proofs.Writing.{open_started}
 use Rattle.image_book.proofs.making.begin.Goals as goal
@@ -14,6 +13,4 @@ pub returns-clause-reads : goal.returns-clause-reads
 returns-clause-reads c =
     let bs = c.args.image.now in
     let h = start_err bs c.check_start.result false c.if-is_err.ensures.value c.check_start.ensures in
-    let e = c.put_count.ensures in
-    let m = c.capacity-room.ensures in
-    subst (λ x. Reads x 0 c.capacity-room.result) (sym e) (subst (λ k. Reads (written 0 (to_le_bytes w32 0) bs) 0 k) (sym m) (reads_open (written 0 (to_le_bytes w32 0) bs) 0 (capacity_of bs) (open_started bs (sym h))))
+    rw (c.put_count.ensures, c.capacity-room.ensures) (reads_open (written 0 (to_le_bytes w32 0) bs) 0 (capacity_of bs) (open_started bs (sym h)))

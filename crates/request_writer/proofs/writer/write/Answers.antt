@@ -1,14 +1,14 @@
-use Rattle.std.proofs.Common.{map, inl, rules}
-use Rattle.request_writer.specs.Packing.{item, packing, Refuses}
+use Rattle.std.proofs.Common.{map, inl, arith, rules}
+use Rattle.request_writer.specs.Packing.{item, Refuses}
 use Rattle.request_writer.proofs.Holding.{refused_unheld}
-use Rattle.request_writer.proofs.Trips.{refused_by_size, reads_back}
+use Rattle.request_writer.proofs.Trips.{reads_back}
 use Rattle.request_writer.proofs.writer.write.Goals as goal
 
 pub returns-in_err-size-clause-only : goal.returns-in_err-size-clause-only
 returns-in_err-size-clause-only c =
     let es = map item c.args.entries.now in
     let e = c.in_err-size.field-0.0 in
-    let why : Refuses es e = inl (refused_by_size (packing es) e c.in_err-size.ensures) in
+    let why : Refuses es e = inl (grind arith) in
     let unheld = refused_unheld es e why in
     search rules
 
