@@ -18,16 +18,18 @@ use posting::growing::plan;
 use posting::order::{Head, read_head};
 use posting::plan::Plan;
 use posting::rated::Rated;
+use record_codec::codec::RECORD_BYTES;
 use statements::statement::{BookKind, MethodName};
 use std::io::Read;
 use table_book::TableBook;
 
 const MOST_RECORDS: u64 = limits::MOST_RECORDS as u64;
 
-const MOST_IMAGE: u64 = 4 + 36 * MOST_RECORDS;
+// a count of four bytes, and the records
+const MOST_IMAGE: u64 = 4 + RECORD_BYTES as u64 * MOST_RECORDS;
 
 // Four slots to a record, so that an account is mostly found at the first look.
-const SLOTS: usize = 16_384;
+const SLOTS: usize = 4 * limits::MOST_RECORDS;
 
 // Posts the journal that stands on standard input.
 pub fn post_input<P: Paper>(rt: &HostRuntime, paper: &P) -> anyhow::Result<Ending> {

@@ -87,6 +87,7 @@ fn show_line(rt: &HostRuntime, file: &[u8], place: usize, line: &Line) -> anyhow
 pub fn show(rt: &HostRuntime, name: &str) -> anyhow::Result<Ending> {
     let bytes = read_file(rt, name)?;
     let file = bytes.as_slice();
+    // the reader writes to a table that is lent to it, and answers how many places it took
     let mut table = vec![in rt.alloc(); Line::default(); MAX_LINES]?;
     match read(file, table.as_mut_slice()) {
         Ok(lines) => {

@@ -28,16 +28,6 @@ struct Sheet {
 }
 
 impl Sheet {
-    // Before the first period.
-    fn empty(heap: Global) -> Sheet {
-        Sheet {
-            period: 0,
-            reading: 0,
-            bank: Bank::default(),
-            rows: Vec::new(heap),
-        }
-    }
-
     // Notes what a performed call did in the open period.
     fn note<M, B: AccountBook>(&mut self, book: &B, call: &Call<M>, done: &Done) {
         let account = match call {
@@ -104,7 +94,8 @@ fn print_periods<M: CreditMethod, B: AccountBook, W: Write>(
     calls: &[Call<M>],
     heap: Global,
 ) -> anyhow::Result<usize> {
-    let mut sheet = Sheet::empty(heap);
+    // none before the first period
+    let mut sheet: Option<Sheet> = None;
     let mut refused = 0usize;
     for (place, call) in calls.iter().enumerate() {
         let before = match call {
@@ -115,7 +106,7 @@ fn print_periods<M: CreditMethod, B: AccountBook, W: Write>(
         match (call, ledger.perform(book, call)) {
             (Call::Reading(reading), Ok(Done::Opened { period })) => {
                 let after = records(book, heap)?;
-                sheet = Sheet {
+                sheet = Some(Sheet {
                     period,
                     reading: *reading,
                     bank: Bank {
@@ -123,13 +114,19 @@ fn print_periods<M: CreditMethod, B: AccountBook, W: Write>(
                         after: ledger.bank(),
                     },
                     rows: opened_rows(before.as_slice(), after.as_slice(), heap)?,
-                };
+                });
             }
             (_, Ok(Done::Closed(settlement))) => {
-                print_sheet(out, &sheet, &settlement, heap)?;
+                if let Some(sheet) = &sheet {
+                    print_sheet(out, sheet, &settlement, heap)?;
+                }
                 progress.tell(place, "calls are posted")?;
             }
-            (_, Ok(done)) => sheet.note(book, call, &done),
+            (_, Ok(done)) => {
+                if let Some(sheet) = &mut sheet {
+                    sheet.note(book, call, &done);
+                }
+            }
             (_, Err(_)) => refused = refused.saturating_add(1),
         }
     }

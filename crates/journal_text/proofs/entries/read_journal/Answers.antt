@@ -2,9 +2,6 @@ use Rattle.std.proofs.Common.{arith, rules}
 use Rattle.journal_text.proofs.Cutting.{next_line, no_line, counted, refused}
 use Rattle.journal_text.proofs.entries.read_journal.Goals as goal
 
-pub add-requires : goal.add-requires
-add-requires c = omega (arith, c.loop-line.invariant.counted, c.in-Some.ensures.steps.2)
-
 pub returns-in_err-add : goal.returns-in_err-add
 returns-in_err-add c =
     let next = next_line _ _ _ _ _ _ (λ a r f' k. search rules) c.in-Some.ensures.steps in
