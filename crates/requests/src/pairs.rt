@@ -20,6 +20,7 @@ pub fn line_count(file: &[u8]) -> Result<usize, RequestRefusal>
     if !(COUNT_BYTES..=MAX_FILE).contains(&file.len()) {
         return Err(RequestRefusal::FileLength);
     }
+    // the range above is why two bytes are there: `first_chunk` would refuse a file without them once more
     let lines = u16::from_le_bytes([file[0], file[1]]) as usize;
     if !(1..=MAX_LINES).contains(&lines) || file.len() < COUNT_BYTES + PAIR_BYTES * lines {
         return Err(RequestRefusal::LineCount);
@@ -31,12 +32,11 @@ pub fn read_pair(file: &[u8], place: usize) -> Pair
     requires { 8 + 6 * place ≤ length file.now }
     ensures { result ≡ pair_at file.now place }
 {
-    let at = COUNT_BYTES + PAIR_BYTES * place;
-    let offset = [file[at], file[at + 1], file[at + 2], file[at + 3]];
-    let length = [file[at + 4], file[at + 5]];
+    let (pairs, _) = file[COUNT_BYTES..].as_chunks::<PAIR_BYTES>();
+    let [a, b, c, d, e, f] = pairs[place];
     Pair {
-        offset: u32::from_le_bytes(offset),
-        length: u16::from_le_bytes(length),
+        offset: u32::from_le_bytes([a, b, c, d]),
+        length: u16::from_le_bytes([e, f]),
     }
 }
 
