@@ -25,10 +25,10 @@ impl Ledger {
     }
 
     // The period's members' applied credits, 0 between periods.
-    // Each sum has a match of its own: a function of both would answer a pair for each to take apart.
     pub fn applied(&self) -> u64
         ensures { result ≡ applied_in self.now.phase }
     {
+        // each sum has a match of its own: a function of both would answer a pair for each to take apart
         match self.phase {
             Phase::Between => 0,
             Phase::InPeriod { applied, .. } => applied,
