@@ -29,7 +29,7 @@ fn most_lines(rt: HostRuntime) -> Result<(), Fail> {
     let mut table = [LINE; 1024];
     assert_eq!(rt; told(read(bytes, &mut table)), Ok(1024));
     assert_eq!(rt; told(read(bytes, &mut table[0..1023])), Err((3, 0)));
-    // the pair at place p starts at 2 + 6 p, and its line at 6,146 + 30 p; a place, a byte, the refusal's number and place
+    // the pair at place p starts at 2 + 6 p, and its line at 6,146 + 30 p
     for (at, byte, expected) in [
         (0, 1, (2, 0)),
         (6, 29, (4, 0)),
