@@ -14,7 +14,7 @@ pub enum Call<M> {
     Enrol(Vec<Line>),
     // the month's metered units
     Reading(u64),
-    // a struct of the three within would name them once more at every use
+    // the parts stand here as the rules name them: a struct would be one more name where a bill is made or matched
     Bill { method: M, account: u64, cents: u64 },
     // the last bill of an account, which closes it
     FinalBill { method: M, account: u64, cents: u64 },
@@ -141,6 +141,7 @@ impl Numbered for Refusal {
         }
     }
 
+    // 0 where no place is told: a rule of the refusals
     fn place(&self) -> usize {
         match self {
             Refusal::LineOutOfRange { place }

@@ -79,7 +79,7 @@ impl Ledger {
                 Phase::InPeriod { .. },
                 Call::Enrol(_) | Call::Reading(_) | Call::Disburse { .. } | Call::Lapse,
             ) => { Err(Refusal::InPeriod) }
-            // a bill and a final bill begin alike: each pair's rule is whole in its place
+            // the next two begin alike: phase and call are matched in one decision, each pair's rule whole in its place
             (
                 Phase::InPeriod { applied, fees },
                 Call::Bill {

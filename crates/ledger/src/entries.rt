@@ -41,7 +41,7 @@ pub(crate) fn replace_each<B: AccountBook, F: Fn(Entry) -> Record>(book: &mut B,
     requires { F.IsAlwaysCallable change }
     ensures { B.sound book.old → (f : Record → Record) → Changes (F.post change) f (B.contents book.old).records → Left (B.sound book.new) (B.contents book.new) (B.contents book.old) (map f (B.contents book.old).records) }
 {
-    // a book is replaced by place: an iterator over it would be one type more for this loop
+    // a loop and no chain, whose first closure would hold the book that its last one changes
     for place in 0..book.count() {
         if let Some(entry) = entry_at(book, place) {
             let _ = book.replace(place, change(entry));

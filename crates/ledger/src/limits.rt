@@ -12,5 +12,8 @@ pub(crate) const MOST_LINES: usize = 1_024;
 
 pub(crate) const MOST_READING: u64 = 10_000_000_000;
 
+// the readings of all periods together, in units
+pub(crate) const MOST_READ: u64 = 1_000_000_000_000;
+
 // a period's members' applied credits, in cents
 pub(crate) const MOST_APPLIED: u64 = 10_000_000_000_000;

@@ -7,8 +7,8 @@ use super::call::{Done, Refusal};
 use super::entries::open_entry;
 use super::ledger::Ledger;
 use accounts::book::AccountBook;
+use accounts::limits::MOST_UNITS;
 use accounts::record::Record;
-use crediting::credit::MOST_UNITS;
 
 impl Ledger {
     // Moves units from the host's bank to an account.

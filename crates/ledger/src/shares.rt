@@ -11,12 +11,11 @@ use super::call::{Done, Refusal};
 use super::entries::{entry_at, replace_each};
 use super::entry::Entry;
 use super::ledger::Ledger;
-use super::limits::{MOST_READING, WHOLE};
+use super::limits::{MOST_READ, MOST_READING, WHOLE};
 use super::phase::Phase;
 use accounts::book::AccountBook;
-use accounts::limits::MOST_PERIODS;
+use accounts::limits::{MOST_PERIODS, MOST_UNITS};
 use accounts::record::Record;
-use crediting::credit::MOST_UNITS;
 
 // The month's metered units.
 #[derive(Clone, Copy)]
@@ -41,7 +40,7 @@ impl Reading {
     {
         let mut percentages: u64 = 0;
         let mut shared: u64 = 0;
-        // a book is read by place: an iterator over it would be one type more for this loop
+        // a loop and no chain: each record may refuse the reading at once, by `?`, and two sums are kept
         for place in 0..book.count() {
             let entry = entry_at(book, place).ok_or(Refusal::ForeignBook)?;
             percentages += u64::from(entry.holder.percentage);
@@ -87,7 +86,7 @@ impl Ledger {
         if units > MOST_READING {
             return Err(Refusal::ReadingTooLarge);
         }
-        if self.read + units > MOST_UNITS {
+        if self.read + units > MOST_READ {
             return Err(Refusal::ReadingsPass);
         }
         let reading = Reading { units };

@@ -28,6 +28,7 @@ impl Ledger {
     pub fn applied(&self) -> u64
         ensures { result ≡ applied_in self.now.phase }
     {
+        // each sum has a match of its own: a function of both would answer a pair for each to take apart
         match self.phase {
             Phase::Between => 0,
             Phase::InPeriod { applied, .. } => applied,

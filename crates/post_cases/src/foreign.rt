@@ -1,27 +1,16 @@
 // Opening at its limits, refusals 9 and 10, and books that are another ledger's, refusal 27.
 use super::group::Group;
+use super::satellite::satellite;
 use super::stage::{EXEMPT, Stage};
 use super::steps::{Act, Step, bill, disburse, expects};
 use super::told::{ACCEPTED, Told, amount, declined, posted, settled, told};
 use accounts::book::AccountBook;
+use accounts::limits::MOST_UNITS;
 use accounts::project::Project;
 use accounts::record::Record;
 use ledger::ledger::Ledger;
 use std::alloc::Global;
 use table_book::TableBook;
-
-const MOST_UNITS: u64 = 1_000_000_000_000;
-
-fn satellite(account: u64, percentage: u32, held: u64) -> Record {
-    Record {
-        account,
-        percentage,
-        savings: 1_000,
-        class: 1,
-        held,
-        ..Record::default()
-    }
-}
 
 #[derive(Clone, Copy)]
 struct Opening {

@@ -1,28 +1,23 @@
 // Images of a book at their limits: refusals 6 and 7.
 use super::group::Group;
 use super::patch::{Patch, put};
+use super::satellite::satellite;
 use super::told::{ACCEPTED, declined, declined_at, told};
 use accounts::record::Record;
 use image_book::checks::{check_open, check_start};
 use record_codec::codec::encode;
 
-fn satellite(account: u64) -> Record {
-    Record {
-        account,
-        percentage: 10_000,
-        savings: 1_000,
-        class: 2,
-        held: 681,
-        last: 3,
-        ..Record::default()
-    }
-}
-
 // Two records of 36 bytes behind a count of 4.
 fn two_records(rt: &HostRuntime) -> anyhow::Result<Vec<u8>> {
     let mut image = [2u8, 0, 0, 0].to_vec(rt.alloc())?;
-    image.extend_from_slice(&encode(&satellite(1)))?;
-    image.extend_from_slice(&encode(&satellite(2)))?;
+    for account in [1, 2] {
+        let record = Record {
+            class: 2,
+            last: 3,
+            ..satellite(account, 10_000, 681)
+        };
+        image.extend_from_slice(&encode(&record))?;
+    }
     Ok(image)
 }
 

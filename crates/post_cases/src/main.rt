@@ -10,6 +10,7 @@ mod images;
 mod patch;
 mod periods;
 mod postings;
+mod satellite;
 mod stage;
 mod steps;
 mod told;

@@ -37,7 +37,7 @@ impl Billing {
 // An act is a value, and no closure, since one list of steps is performed on either kind of book.
 #[derive(Clone, Copy)]
 pub enum Act {
-    // a request of at most three lines
+    // a request of at most three lines, within: a slice would borrow what the function that lists the steps made
     Enrol([Option<Line>; 3]),
     // so many lines of a thousandth of a percent each
     EnrolMany { count: u64 },
@@ -86,6 +86,7 @@ pub fn large(account: u64, percentage: u32) -> Line {
     }
 }
 
+// One for each number of lines: a function of any array would fill up by a loop, and would have to refuse four lines.
 pub fn one(a: Line) -> Act {
     Act::Enrol([Some(a), None, None])
 }

@@ -117,15 +117,18 @@ pub fn declined_at(number: u8, place: usize) -> Told {
     Err(Refused { number, place })
 }
 
+// A posting as it is printed.
+#[derive(Clone, Copy)]
+struct Printed(Posting);
+
 impl fmt::Display for Fact {
     fn fmt<W: fmt::Write>(&self, f: &mut fmt::Formatter<W>) -> fmt::Result {
         match self {
             Fact::Accepted => write!(f, "accepted"),
             Fact::Amount(amount) => write!(f, "{amount}"),
-            Fact::Posted(posting) => write_posting(posting, f),
+            Fact::Posted(posting) => write!(f, "{}", Printed(*posting)),
             Fact::Ended { posting, forfeited } => {
-                write_posting(posting, f)?;
-                write!(f, ", forfeited {forfeited}")
+                write!(f, "{}, forfeited {forfeited}", Printed(*posting))
             }
             Fact::Settled(settlement) => {
                 let Settlement {
@@ -143,14 +146,16 @@ impl fmt::Display for Fact {
     }
 }
 
-fn write_posting<W: fmt::Write>(posting: &Posting, f: &mut fmt::Formatter<W>) -> fmt::Result {
-    let Posting {
-        applied,
-        used,
-        net,
-        fee,
-    } = *posting;
-    write!(f, "applied {applied}, used {used}, net {net}, fee {fee}")
+impl fmt::Display for Printed {
+    fn fmt<W: fmt::Write>(&self, f: &mut fmt::Formatter<W>) -> fmt::Result {
+        let Posting {
+            applied,
+            used,
+            net,
+            fee,
+        } = self.0;
+        write!(f, "applied {applied}, used {used}, net {net}, fee {fee}")
+    }
 }
 
 impl fmt::Display for Refused {

@@ -7,17 +7,15 @@ ghost use Rattle.request_writer.specs.declared.entry.Entry.{Entry};
 use crate::entry::Entry;
 use crate::refusal::WriteRefusal;
 use crate::text::{numbers_fit, push_text, text_length};
-use requests::limits::{MAX_FILE, MAX_LINES};
+use requests::limits::{COUNT_BYTES, MAX_FILE, MAX_LINES, MAX_REMARK, PAIR_BYTES};
 use std::alloc::{AllocError, Global};
-
-const MAX_REMARK: usize = 79;
 
 #[tactic(auto, using(crate::proofs::Packs::pairs_more, crate::proofs::Packs::left_more, crate::proofs::Packs::remark_short), unfolding(crate::specs::Packing::pairs))]
 fn push_pairs(file: &mut Vec<u8>, entries: &[Entry]) -> Result<(), AllocError>
     requires { 2 + 6 * length entries.now + length (flat_map text (map item entries.now)) < 65536 }
     ensures { OnOk result (file.new.items ≡ file.old.items ++ pairs (2 + 6 * length entries.now) (map item entries.now)) }
 {
-    let mut at = 2 + 6 * entries.len();
+    let mut at = COUNT_BYTES + PAIR_BYTES * entries.len();
     for entry in entries {
         let length = text_length(entry);
         file.extend_from_slice(&(at as u32).to_le_bytes())?;
@@ -57,8 +55,8 @@ pub fn check(entries: &[Entry]) -> Result<usize, WriteRefusal>
     if !(1..=MAX_LINES).contains(&entries.len()) {
         return Err(WriteRefusal::LineCount);
     }
-    // a loop, since the first line at fault is told by its place
-    let mut size = 2 + 6 * entries.len();
+    // a loop: `try_fold` would hand on the size as its closure's answer, with the same two refusals in it
+    let mut size = COUNT_BYTES + PAIR_BYTES * entries.len();
     for (place, entry) in entries.iter().enumerate() {
         if !numbers_fit(&entry.line) {
             return Err(WriteRefusal::Number { place });

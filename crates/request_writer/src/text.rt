@@ -4,9 +4,11 @@ ghost use Rattle.request_writer.specs.Packing.{form, item, text, holds};
 
 use crate::entry::Entry;
 use accounts::record::Line;
+use requests::limits::FIELDS;
 use std::alloc::{AllocError, Global};
 
-// The thirty bytes of a line's fields.
+// The thirty bytes of a line's fields. That its numbers fit is a premise, here and where it is handed on:
+// the entries are lent, and a list of a type of those that fit would be a copy of them.
 #[tactic(auto, using(crate::proofs::Padded::form_padded))]
 fn form_text(line: &Line, heap: Global) -> Result<String, AllocError>
     requires { IsTrue (holds line.now) }
@@ -20,6 +22,7 @@ fn form_text(line: &Line, heap: Global) -> Result<String, AllocError>
         size,
         kind,
     } = *line;
+    // the widths stand in the format, which takes no constants, as places and widths do in the reader
     format!(in heap; "{account:011} {percentage:06} {savings:04} {class:02} {size} {kind}")
 }
 
@@ -54,8 +57,8 @@ pub fn text_length(entry: &Entry) -> usize
     ensures { result ≡ length (text (item entry.now)) }
 {
     if entry.remark.is_empty() {
-        30
+        FIELDS
     } else {
-        31 + entry.remark.len()
+        FIELDS + 1 + entry.remark.len()
     }
 }

@@ -1,3 +1,4 @@
 pub mod Judged
 pub mod Numerals
 pub mod Readings
+pub mod Sixes

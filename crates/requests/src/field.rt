@@ -3,6 +3,7 @@ ghost use Rattle.std.specs.Prelude.{◌≡◌, ◌+◌, ◌^◌, ◌<◌, ◌≤
 ghost use Rattle.requests.specs.Form.{with_digit, number_at, space_at, line_of};
 
 use crate::fault::FieldFault;
+use crate::limits::FIELDS;
 use accounts::record::{Kind, Line, Size};
 
 // One digit more: the number so far times ten, plus the digit.
@@ -10,13 +11,12 @@ fn with_digit(gathered: u64, byte: u8) -> Result<u64, FieldFault>
     requires { gathered < 10 ^ 18 }
     ensures { result ≡ with_digit gathered byte }
 {
-    match byte {
-        b'0'..=b'9' => Ok(gathered * 10 + u64::from(byte - b'0')),
-        _ => Err(FieldFault::NotDigit),
-    }
+    let digit = char::from(byte).to_digit(10).ok_or(FieldFault::NotDigit)?;
+    Ok(gathered * 10 + u64::from(digit))
 }
 
 // The number that the `width` bytes from `at` on write.
+// Other readers of digits each have a rule for a number that is too large; here the width bounds it.
 fn number(line: &[u8], at: usize, width: usize) -> Result<u64, FieldFault>
     requires within { at + width ≤ length line.now }
     requires fits { width ≤ 18 }
@@ -46,6 +46,7 @@ pub fn fields(line: &[u8]) -> Result<Line, FieldFault>
     requires { 30 ≤ length line.now }
     ensures { result ≡ line_of line.now }
 {
+    // places and widths are numbers as in the definition: the reader goes by places, the writer by a format
     let account = number(line, 0, 11)?;
     space(line, 11)?;
     let percentage = number(line, 12, 6)? as u32;
@@ -57,8 +58,8 @@ pub fn fields(line: &[u8]) -> Result<Line, FieldFault>
     let size = Size::try_from(line[27])?;
     space(line, 28)?;
     let kind = Kind::try_from(line[29])?;
-    if line.len() > 30 {
-        space(line, 30)?;
+    if line.len() > FIELDS {
+        space(line, FIELDS)?;
     }
     Ok(Line {
         account,

@@ -32,7 +32,7 @@ impl<'a> PairedFile<'a> {
     pub fn check(&self) -> Result<(), LineFault>
         ensures { result ≡ checked (lines_from self.now.file.now 0 self.now.lines) }
     {
-        // the `?` of each line tells its place
+        // a loop: `try_for_each` would wrap the `?` in a closure, and make `()` of each line
         for place in 0..self.lines {
             self.line(place)?;
         }

@@ -3,7 +3,7 @@ ghost use Rattle.std.specs.Prelude.{◌≡◌, ◌+◌, ◌*◌, ◌<◌, ◌≤
 ghost use Rattle.requests.specs.Meaning.{pair_at, end_of, fits, pairs_from, count};
 
 use crate::fault::{PairFault, RequestRefusal};
-use crate::limits::{MAX_FILE, MAX_LINES};
+use crate::limits::{COUNT_BYTES, FIELDS, MAX_FILE, MAX_LINE, MAX_LINES, PAIR_BYTES};
 
 // Where a line stands in the file.
 #[derive(Clone, Copy)]
@@ -17,11 +17,12 @@ pub struct Pair {
 pub fn line_count(file: &[u8]) -> Result<usize, RequestRefusal>
     ensures { result ≡ count file.now }
 {
-    if !(2..=MAX_FILE).contains(&file.len()) {
+    if !(COUNT_BYTES..=MAX_FILE).contains(&file.len()) {
         return Err(RequestRefusal::FileLength);
     }
+    // the range above is why two bytes are there: `first_chunk` would refuse a file without them once more
     let lines = u16::from_le_bytes([file[0], file[1]]) as usize;
-    if !(1..=MAX_LINES).contains(&lines) || file.len() < 2 + 6 * lines {
+    if !(1..=MAX_LINES).contains(&lines) || file.len() < COUNT_BYTES + PAIR_BYTES * lines {
         return Err(RequestRefusal::LineCount);
     }
     Ok(lines)
@@ -31,12 +32,11 @@ pub fn read_pair(file: &[u8], place: usize) -> Pair
     requires { 8 + 6 * place ≤ length file.now }
     ensures { result ≡ pair_at file.now place }
 {
-    let at = 2 + 6 * place;
-    let offset = [file[at], file[at + 1], file[at + 2], file[at + 3]];
-    let length = [file[at + 4], file[at + 5]];
+    let (pairs, _) = file[COUNT_BYTES..].as_chunks::<PAIR_BYTES>();
+    let [a, b, c, d, e, f] = pairs[place];
     Pair {
-        offset: u32::from_le_bytes(offset),
-        length: u16::from_le_bytes(length),
+        offset: u32::from_le_bytes([a, b, c, d]),
+        length: u16::from_le_bytes([e, f]),
     }
 }
 
@@ -58,7 +58,9 @@ impl Pair {
     fn fits(&self, start: usize, size: usize) -> bool
         ensures { result ≡ fits size start self.now }
     {
-        start <= self.start() && (30..=110).contains(&self.length) && self.end() <= size
+        start <= self.start()
+            && (FIELDS..=MAX_LINE).contains(&(self.length as usize))
+            && self.end() <= size
     }
 }
 
@@ -68,8 +70,8 @@ pub fn check_pairs(file: &[u8], lines: usize) -> Result<(), PairFault>
     requires { 2 + 6 * lines ≤ length file.now }
     ensures { result ≡ pairs_from file.now (2 + 6 * lines) 0 lines }
 {
-    // a loop, since each pair hands on where the next may start
-    let mut start = 2 + 6 * lines;
+    // a loop: `try_fold` would answer where the next line may start, which nothing asks for at the end
+    let mut start = COUNT_BYTES + PAIR_BYTES * lines;
     for place in 0..lines {
         let pair = read_pair(file, place);
         if !pair.fits(start, file.len()) {

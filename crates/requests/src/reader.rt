@@ -5,7 +5,7 @@ ghost use Rattle.std.specs.Result.{result_map_both};
 ghost use Rattle.requests.specs.Meaning.{reading, counted, written, remark_at};
 
 use crate::fault::RequestRefusal;
-use crate::limits::MAX_LINES;
+use crate::limits::{FIELDS, MAX_LINES};
 use crate::lines::PairedFile;
 use crate::pairs::{check_pairs, line_count, read_pair};
 use crate::remark::Remark;
@@ -49,8 +49,8 @@ pub fn remark<'a>(file: &'a [u8], place: usize) -> Option<Remark<'a>>
     }
     let pair = read_pair(file, place);
     let end = pair.end();
-    let start = if pair.length > 30 {
-        pair.start() + 31
+    let start = if pair.length as usize > FIELDS {
+        pair.start() + FIELDS + 1
     } else {
         end
     };

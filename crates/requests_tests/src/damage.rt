@@ -19,7 +19,7 @@ const BLANK: Line = Line {
     kind: Kind::Anchor,
 };
 
-// A place, the byte put there, and how many lines are read, or the refusal's number and place.
+// A place, the byte put there, and how many lines are read, or the refusal's number and place, each case on one line.
 const DAMAGES: [(usize, u8, Result<usize, (u8, usize)>); 48] = [
     (0, 0, Err((2, 0))),
     (1, 4, Err((2, 0))),
@@ -79,9 +79,7 @@ fn damaged_bytes(rt: HostRuntime) -> Result<(), Fail> {
         let answer = told(read(file.as_slice(), &mut table));
         assert_eq!(rt; answer, expected);
         if answer.is_err() {
-            for line in &table {
-                assert_eq!(rt; *line, BLANK);
-            }
+            assert_eq!(rt; table, [BLANK; 3]);
         }
     }
     Ok(())
@@ -115,12 +113,7 @@ fn lines_and_other_places(rt: HostRuntime) {
     };
     let mut table = [BLANK; 5];
     assert_eq!(rt; read(FILE, &mut table).ok(), Some(3));
-    for (line, expected) in table
-        .iter()
-        .zip([first, second, third, BLANK, BLANK].iter())
-    {
-        assert_eq!(rt; *line, *expected);
-    }
+    assert_eq!(rt; table, [first, second, third, BLANK, BLANK]);
 }
 
 #[test]

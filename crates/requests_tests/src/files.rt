@@ -3,7 +3,7 @@ use refusals::Numbered;
 use requests::fault::RequestRefusal;
 use std::alloc::{AllocError, Global};
 
-// How many lines were read, or the refusal's number and place.
+// How many lines were read, or the refusal's number and place: a pair, so that a case stays on one line.
 pub fn told(answer: Result<usize, RequestRefusal>) -> Result<usize, (u8, usize)> {
     answer.map_err(|refusal| (refusal.number(), refusal.place()))
 }

@@ -30,19 +30,16 @@ fn most_lines(rt: HostRuntime) -> Result<(), Fail> {
     assert_eq!(rt; told(read(bytes, &mut table)), Ok(1024));
     assert_eq!(rt; told(read(bytes, &mut table[0..1023])), Err((3, 0)));
     // the pair at place p starts at 2 + 6 p, and its line at 6,146 + 30 p
-    for (at, byte, number, place) in [
-        (0, 1, 2, 0),
-        (6, 29, 4, 0),
-        (6_144, 31, 4, 1_023),
-        (6_140, 35, 4, 1_023),
-        (6_146, b'.', 5, 0),
-        (36_865, b'Y', 5, 1_023),
+    for (at, byte, expected) in [
+        (0, 1, (2, 0)),
+        (6, 29, (4, 0)),
+        (6_144, 31, (4, 1_023)),
+        (6_140, 35, (4, 1_023)),
+        (6_146, b'.', (5, 0)),
+        (36_865, b'Y', (5, 1_023)),
     ] {
         let damaged = changed(heap, bytes, at, byte)?;
-        assert_eq!(rt;
-            told(read(damaged.as_slice(), &mut table)),
-            Err((number, place))
-        );
+        assert_eq!(rt; told(read(damaged.as_slice(), &mut table)), Err(expected));
     }
     Ok(())
 }
@@ -55,9 +52,7 @@ fn longest(rt: HostRuntime) -> Result<(), Fail> {
     }];
     let mut file = write(&entries, rt.alloc())?;
     for (length, expected) in [(65_535, Ok(1)), (65_536, Err((1, 0)))] {
-        for _ in file.len()..length {
-            file.push(0)?;
-        }
+        file.resize(length, 0)?;
         assert_eq!(rt; file.len(), length);
         let mut table = [LINE; 1];
         assert_eq!(rt; told(read(file.as_slice(), &mut table)), expected);
