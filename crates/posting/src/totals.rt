@@ -77,7 +77,7 @@ impl Amount {
     }
 }
 
-// Calls and their answers, in order.
+// Calls and their answers, in order; two lists, since a run answers a list of its own.
 #[derive(Drop)]
 pub struct Performed<'a, M> {
     pub calls: &'a [Call<M>],

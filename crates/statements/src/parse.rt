@@ -146,7 +146,7 @@ fn read_statement(
         Keyword::Line => Ok(Statement::Line(read_line(line)?)),
         Keyword::Request => Ok(Statement::Request(read_request(line, heap)?)),
         Keyword::Reading => Ok(Statement::Reading(read_number(line, Expected::Units)?)),
-        // each of the next three makes a variant with named fields, which is no value that a helper could take
+        // no helper for the next three: it would take the variant as a closure and have to promise what that makes
         Keyword::Bill => {
             let (account, cents) = read_account_and(line, Expected::Cents)?;
             Ok(Statement::Bill { account, cents })
