@@ -101,8 +101,6 @@ impl<M> Performed<'_, M> {
 pub fn held<B: AccountBook>(book: &B) -> u128
     ensures { B.sound book.now → result ≡ sum_by (λ x. x.held) (B.contents book.now).records }
 {
-    (0..book.count())
-        .filter_map(|place| book.get(place))
-        .map(|holder| u128::from(holder.held))
-        .sum()
+    let holders = (0..book.count()).filter_map(|place| book.get(place));
+    holders.map(|holder| u128::from(holder.held)).sum()
 }
