@@ -14,7 +14,7 @@ sum-requires-clause-fits g c =
     let count : c.count.result ≤ most = search rules in
     let places = YieldsList-from_range 0 c.count.result c.count.result refl (omega arith) in
     fits_from_length _ _ most (2 ^ 128)
-    (at_most_at c.map.ensures.source (at_most_from_filter_map _ (at_most_from_yields_List (YieldsList-at c.filter_map.ensures.source places) (omega (arith, count, length-range_with_len 0 c.count.result)))))
+    (at_most_at c.map.ensures.source (at_most_from_filter_map _ (at_most_from_yields_List (YieldsList-at c.filter_map-holders.ensures.source places) (omega (arith, count, length-range_with_len 0 c.count.result)))))
     c.map.ensures.closure
     (omega arith)
     (λ x r q k. search (rules, k))
@@ -26,7 +26,7 @@ returns g c = λ sound.
     let places = YieldsList-from_range 0 c.count.result (length rs) refl (omega (arith, c.count.ensures sound)) in
     sum_by_from_yields_List (λ r. r.held) (filter_map (slice_get rs) (range_with_len 0 (length rs))) _ c.sum.result c.sum.ensures.ran
     (YieldsList-from_map _ (λ r. r.held)
-    (YieldsList-at c.map.ensures.source (YieldsList-from_filter_map _ (slice_get rs) (YieldsList-at c.filter_map.ensures.source places) c.filter_map.ensures.closure (λ x r q k. search (rules, k, sound))))
+    (YieldsList-at c.map.ensures.source (YieldsList-from_filter_map _ (slice_get rs) (YieldsList-at c.filter_map-holders.ensures.source places) c.filter_map-holders.ensures.closure (λ x r q k. search (rules, k, sound))))
     c.map.ensures.closure
     (λ x r q k. search (rules, k)))
     ∙ ap (sum_by (λ r. r.held)) (read_all rs)
