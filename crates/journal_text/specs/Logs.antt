@@ -34,13 +34,13 @@ calls_ledger note.Disburse = true
 calls_ledger note.Lapse = true
 calls_ledger note.Close = true
 
-abbrev pub rates_text : Result (Unit {0}) RatesRefusal → List ℕ
-rates_text (Ok _) = codes "rates: set"
-rates_text (Err why) = refused_text (codes "rates") (number why) (place why) (reason why)
+abbrev pub rates_text : List ℕ → Result (Unit {0}) RatesRefusal → List ℕ
+rates_text word (Ok _) = codes "rates: set"
+rates_text word (Err why) = refused_text word (number why) (place why) (reason why)
 
-abbrev pub file_text : Result ℕ RequestRefusal → List ℕ
-file_text (Ok lines) = request_text lines
-file_text (Err why) = refused_text (codes "request") (number_of why) (place_of why) (words_of why)
+abbrev pub file_text : List ℕ → Result ℕ RequestRefusal → List ℕ
+file_text word (Ok lines) = request_text lines
+file_text word (Err why) = refused_text word (number_of why) (place_of why) (words_of why)
 
 -- a call without an answer has no line
 abbrev pub call_text : List ℕ → Option (Result Done Refusal) → List ℕ
@@ -49,8 +49,8 @@ call_text word None = []
 
 -- The line of a statement, with the ledger's answer where it is a call.
 abbrev pub note_text : Note → Option (Result Done Refusal) → List ℕ
-note_text (note.Rates judged) answer = rates_text judged
-note_text (note.Request read) answer = file_text read
+note_text (note.Rates judged) answer = rates_text (codes "rates") judged
+note_text (note.Request read) answer = file_text (codes "request") read
 note_text note.Enrol answer = call_text (codes "enrol") answer
 note_text note.Reading answer = call_text (codes "reading") answer
 note_text note.Bill answer = call_text (codes "bill") answer

@@ -36,25 +36,34 @@ pub fn is_call(note: Note) -> bool
     !matches!(note, Note::Rates(_) | Note::Request(_))
 }
 
-fn rates_line(judged: Result<(), RatesRefusal>, heap: Global) -> Result<String, AllocError>
-    ensures { IfOk result (λ s. string_bytes s ≡ rates_text judged) }
+fn rates_line(
+    word: &str,
+    judged: Result<(), RatesRefusal>,
+    heap: Global,
+) -> Result<String, AllocError>
+    ensures { IfOk result (λ s. string_bytes s ≡ rates_text word.now judged) }
 {
     match judged {
         Ok(()) => String::from_str(heap, RATES_SET),
-        Err(why) => refusal_line("rates", &why, heap),
+        Err(why) => refusal_line(word, &why, heap),
     }
 }
 
-fn file_line(read: Result<usize, RequestRefusal>, heap: Global) -> Result<String, AllocError>
-    ensures { IfOk result (λ s. string_bytes s ≡ file_text read) }
+fn file_line(
+    word: &str,
+    read: Result<usize, RequestRefusal>,
+    heap: Global,
+) -> Result<String, AllocError>
+    ensures { IfOk result (λ s. string_bytes s ≡ file_text word.now read) }
 {
     match read {
         Ok(lines) => request_line(lines, heap),
-        Err(why) => refusal_line("request", &why, heap),
+        Err(why) => refusal_line(word, &why, heap),
     }
 }
 
 // The line of a call; without an answer it has none.
+// Each call has one; but that is no premise here, as it would ask of callers what they need not show.
 fn call_line(
     word: &str,
     answer: Option<Result<Done, Refusal>>,
@@ -76,9 +85,10 @@ pub fn note_line(
 ) -> Result<String, AllocError>
     ensures { IfOk result (λ s. string_bytes s ≡ note_text note answer) }
 {
+    let word = word(note);
     match note {
-        Note::Rates(judged) => rates_line(judged, heap),
-        Note::Request(read) => file_line(read, heap),
-        _ => call_line(word(note), answer, heap),
+        Note::Rates(judged) => rates_line(word, judged, heap),
+        Note::Request(read) => file_line(word, read, heap),
+        _ => call_line(word, answer, heap),
     }
 }

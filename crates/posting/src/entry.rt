@@ -7,5 +7,6 @@ pub struct Entry {
     pub line: usize,
     pub statement: Statement,
     // the bytes of the request file that the statement names, none for any other
+    // no Option: the statement tells whether it names a file, and one that is empty is refused as any other
     pub file: Vec<u8>,
 }

@@ -90,7 +90,7 @@ impl<M: Rated + Drop> Plan<M> {
             Statement::Request(_) => self.read_request(entry.file.as_slice(), heap),
             Statement::Enrol => self.enrol(heap),
             Statement::Reading(units) => self.call(Call::Reading(units)),
-            // the next two make a variant each with named fields, which is no value that a helper could take
+            // no helper for the next two: it would take the variant as a closure and have to promise what that makes
             Statement::Bill { account, cents } => {
                 let method = M::rated(&self.rates);
                 self.call(Call::Bill {

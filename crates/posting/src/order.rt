@@ -57,14 +57,16 @@ impl fmt::Display for Wanted {
     }
 }
 
-fn part_of(statement: &Statement) -> Part
-    ensures { result ≡ part (meaning statement.now) }
-{
-    match statement {
-        Statement::Method(name) => Part::Method(*name),
-        Statement::Book(book) => Part::Book(*book),
-        Statement::Open(project) => Part::Open(*project),
-        _ => Part::Later,
+impl From<&Statement> for Part {
+    ghost from_gives = { λ statement place. place ≡ part (meaning statement.now) };
+
+    fn from(statement: &Statement) -> Part {
+        match statement {
+            Statement::Method(name) => Part::Method(*name),
+            Statement::Book(book) => Part::Book(*book),
+            Statement::Open(project) => Part::Open(*project),
+            _ => Part::Later,
+        }
     }
 }
 
@@ -120,7 +122,7 @@ pub fn read_head(entries: &[Entry], end: usize) -> Result<Head, Mistake<Wanted>>
 {
     let mut stage = Stage::Start;
     for one in entries {
-        stage = stage.next(one.line, part_of(&one.statement))?;
+        stage = stage.next(one.line, Part::from(&one.statement))?;
     }
     stage.head(end)
 }

@@ -12,6 +12,7 @@ pub struct Plan<M> {
     pub rates: Volumetric,
     // the lines in hand
     pub lines: Vec<Line>,
+    // apart from the notes, since the run takes the calls alone and answers them alone
     pub calls: Vec<Call<M>>,
     // in the order of the statements that answer
     pub notes: Vec<Note>,

@@ -77,7 +77,7 @@ impl Amount {
     }
 }
 
-// Calls and their answers, in order.
+// Calls and their answers, in order; two lists, since a run answers a list of its own.
 #[derive(Drop)]
 pub struct Performed<'a, M> {
     pub calls: &'a [Call<M>],
@@ -98,15 +98,9 @@ impl<M> Performed<'_, M> {
 }
 
 // The units held in all records; a book gives them by their places.
-#[tactic(auto, using(crate::proofs::Summing::held_more))]
 pub fn held<B: AccountBook>(book: &B) -> u128
     ensures { B.sound book.now → result ≡ sum_by (λ x. x.held) (B.contents book.now).records }
 {
-    let mut units = 0u128;
-    for place in 0..book.count() {
-        if let Some(holder) = book.get(place) {
-            units += u128::from(holder.held);
-        }
-    }
-    units
+    let holders = (0..book.count()).filter_map(|place| book.get(place));
+    holders.map(|holder| u128::from(holder.held)).sum()
 }

@@ -22,7 +22,7 @@ pub struct Row {
     pub forfeited: u64,
 }
 
-// A column of numbers; an enum, as the report names its columns.
+// A column of numbers; with a closure in its place a sum would have to promise what the closure answers.
 #[derive(Clone, Copy, PartialEq, Eq, Debug)]
 pub enum Column {
     Percentage,

@@ -63,15 +63,17 @@ impl From<&Row> for Figures {
     }
 }
 
-fn sum_figures(rows: &[Row]) -> Figures
-    ensures { result ≡ sum_figures rows.now }
-{
-    Figures {
-        carried: Column::Carried.total(rows),
-        share: Column::Share.total(rows),
-        available: Column::Available.total(rows),
-        applied: Column::Applied.total(rows),
-        left: Column::Left.total(rows),
+impl From<&[Row]> for Figures {
+    ghost from_gives = { λ rows figures. figures ≡ sum_figures rows.now };
+
+    fn from(rows: &[Row]) -> Figures {
+        Figures {
+            carried: Column::Carried.total(rows),
+            share: Column::Share.total(rows),
+            available: Column::Available.total(rows),
+            applied: Column::Applied.total(rows),
+            left: Column::Left.total(rows),
+        }
     }
 }
 
@@ -123,7 +125,7 @@ pub fn satellites_line(rows: &[Row], heap: Global) -> Result<String, AllocError>
     ensures { IfOk result (λ s. string_bytes s ≡ satellites_text rows.now) }
 {
     let percent = Percent::from(Column::Percentage.total(rows));
-    table_line(&Summary::Satellites, &percent, sum_figures(rows), heap)
+    table_line(&Summary::Satellites, &percent, Figures::from(rows), heap)
 }
 
 pub fn bank_line(bank: Bank, heap: Global) -> Result<String, AllocError>

@@ -1,5 +1,5 @@
 -- The words of a line.
-use Rattle.std.specs.Prelude.{ℕ, zero, suc, Bool, true, false, cond, not, ◌||◌, List, [], ◌∷◌, ◌++◌, drop, Some, None, Option, ◌==◌}
+use Rattle.std.specs.Prelude.{◌≡◌, ℕ, zero, suc, Bool, true, false, cond, not, ◌||◌, List, [], ◌∷◌, ◌++◌, drop, Some, None, Option, ◌==◌}
 use Rattle.std.specs.List.{prefix_len}
 
 -- a space, or a line's end: a carriage return or a line feed
@@ -36,6 +36,10 @@ after_run spaces bs = drop (prefix_len (in_run spaces) bs) bs
 
 abbrev pub after_word : List ℕ → List ℕ
 after_word bs = after_run false (after_run true bs)
+
+-- what is left of a line, old and new, once its first word is taken
+abbrev pub WordTaken : List ℕ → List ℕ → Type 0
+WordTaken old new = (words new ≡ rest (words old)) × (new ≡ after_word old)
 
 abbrev pub after_words : ℕ → List ℕ → List ℕ
 after_words zero bs = bs

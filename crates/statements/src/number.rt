@@ -3,6 +3,7 @@ ghost use Rattle.std.specs.Prelude.{◌≡◌, ◌≤◌, IfSome};
 ghost use Rattle.statements.specs.Numbers.{number_of};
 
 // The number, and `most` in the place of a larger one; nothing where a byte is no digit.
+// `requests` and `cabinet_month` read digits by other rules: a field has a width there, or is refused when too large.
 #[tactic(auto, using(crate::proofs::Gathering::digits))]
 pub fn number(word: &[u8], most: u64) -> Option<u64>
     ensures value { result ≡ number_of most word.now }

@@ -30,14 +30,14 @@ fn read_method(line: &mut Reader) -> Result<MethodName, ParseError>
 fn read_book(line: &mut Reader) -> Result<BookKind, ParseError>
     ensures { result ≡ book_of (words line.old.left.now) }
 {
-    let book = if line.either(Expected::Book, ("table", true), ("image", false))? {
-        BookKind::Table {
+    let book = match line.word() {
+        Some(b"table") => BookKind::Table {
             places: line.number(Expected::Places, u64::MAX)?,
-        }
-    } else {
-        BookKind::Image {
+        },
+        Some(b"image") => BookKind::Image {
             bytes: line.number(Expected::Bytes, u64::MAX)?,
-        }
+        },
+        _ => return Err(ParseError::Expected(Expected::Book)),
     };
     line.end()?;
     Ok(book)
@@ -46,6 +46,7 @@ fn read_book(line: &mut Reader) -> Result<BookKind, ParseError>
 fn read_open(line: &mut Reader) -> Result<Project, ParseError>
     ensures { result ≡ open_of (words line.old.left.now) }
 {
+    // a larger number is read as the largest of its type, so that `as` cuts none, here and below
     let smallest = line.number(Expected::Smallest, u64::from(u32::MAX))? as u32;
     let farm = line.either(Expected::Project, ("farm", true), ("plain", false))?;
     line.end()?;
@@ -145,7 +146,7 @@ fn read_statement(
         Keyword::Line => Ok(Statement::Line(read_line(line)?)),
         Keyword::Request => Ok(Statement::Request(read_request(line, heap)?)),
         Keyword::Reading => Ok(Statement::Reading(read_number(line, Expected::Units)?)),
-        // each of the next three makes a variant with named fields, which is no value that a helper could take
+        // no helper for the next three: it would take the variant as a closure and have to promise what that makes
         Keyword::Bill => {
             let (account, cents) = read_account_and(line, Expected::Cents)?;
             Ok(Statement::Bill { account, cents })

@@ -2,7 +2,7 @@
 ghost use Rattle.std.specs.Prelude.{◌≡◌, ◌≤◌, length, IfOk};
 ghost use Rattle.std.specs.Option.{option_map};
 ghost use Rattle.std.specs.List.{prefix_len};
-ghost use Rattle.statements.specs.Words.{is_space, in_run, words, after_word, first, rest};
+ghost use Rattle.statements.specs.Words.{is_space, in_run, words, first, WordTaken};
 ghost use Rattle.statements.specs.Fields.{number_at, either_at, IsMark, file_at, end_at};
 ghost use Rattle.statements.specs.Meanings.{Told};
 
@@ -35,8 +35,7 @@ impl<'a> Reader<'a> {
     #[tactic(auto, using(crate::proofs::Cutting::cuts))]
     pub fn word(&mut self) -> Option<&'a [u8]>
         ensures value { option_map (λ x. x.now) result ≡ first (words self.old.left.now) }
-        ensures left { words self.new.left.now ≡ rest (words self.old.left.now) }
-        ensures after { self.new.left.now ≡ after_word self.old.left.now }
+        ensures left { WordTaken self.old.left.now self.new.left.now }
     {
         let line = self.left;
         let start = run(line, true);
@@ -49,8 +48,7 @@ impl<'a> Reader<'a> {
     // The number that the next word writes, and `most` in the place of a larger one.
     pub fn number(&mut self, what: Expected, most: u64) -> Result<u64, ParseError>
         ensures value { result ≡ number_at what most (first (words self.old.left.now)) }
-        ensures left { words self.new.left.now ≡ rest (words self.old.left.now) }
-        ensures after { self.new.left.now ≡ after_word self.old.left.now }
+        ensures left { WordTaken self.old.left.now self.new.left.now }
         ensures bound { IfOk result (λ n. n ≤ most) }
     {
         self.word()
@@ -66,7 +64,7 @@ impl<'a> Reader<'a> {
         other: (&str, T),
     ) -> Result<T, ParseError>
         ensures value { result ≡ either_at what one.entry.0.now one.entry.1 other.entry.0.now other.entry.1 (first (words self.old.left.now)) }
-        ensures left { words self.new.left.now ≡ rest (words self.old.left.now) }
+        ensures left { WordTaken self.old.left.now self.new.left.now }
     {
         match self.word() {
             Some(word) if word == one.0.as_bytes() => Ok(one.1),
@@ -81,8 +79,7 @@ impl<'a> Reader<'a> {
         what: Expected,
     ) -> Result<T, ParseError>
         ensures value { IsMark what T.try_from_gives (first (words self.old.left.now)) result }
-        ensures left { words self.new.left.now ≡ rest (words self.old.left.now) }
-        ensures after { self.new.left.now ≡ after_word self.old.left.now }
+        ensures left { WordTaken self.old.left.now self.new.left.now }
     {
         match self.word() {
             Some([byte]) => T::try_from(*byte).or(Err(ParseError::Expected(what))),
@@ -94,7 +91,7 @@ impl<'a> Reader<'a> {
     #[tactic(auto, using(crate::proofs::Listing::names))]
     pub fn text(&mut self) -> Result<&'a str, ParseError>
         ensures value { Told (λ x. x.now) (file_at (first (words self.old.left.now))) result }
-        ensures left { words self.new.left.now ≡ rest (words self.old.left.now) }
+        ensures left { WordTaken self.old.left.now self.new.left.now }
     {
         let word = self.word().ok_or(ParseError::Expected(Expected::File))?;
         from_utf8(word).or(Err(ParseError::Expected(Expected::File)))

@@ -26,6 +26,7 @@ fn write_open(project: Project, heap: Global) -> Result<String, AllocError>
     ensures { IfOk result (λ s. Written (an_opening project) (string_bytes s)) }
 {
     let smallest = project.smallest;
+    // `farm` is a bool of the accounts' own; a type that prints its two words would be made for this line alone
     let mark = if project.farm { "farm" } else { "plain" };
     format!(in heap; "open {smallest} {mark}")
 }
