@@ -3,6 +3,9 @@
 // An account number has at most eleven digits.
 pub const MOST_ACCOUNT: u64 = 99_999_999_999;
 
+// Service classes are numbered from 1 to 16.
+pub const MOST_CLASS: u8 = 16;
+
 // The whole, in thousandths of a percent.
 pub const WHOLE: u32 = 100_000;
 

@@ -1,4 +1,5 @@
 // The marks of a record: size and kind by a letter, the state by a number in an image and by a word in print.
+// Each type is written out: a table for all three would name each mark of each type too, and be no shorter.
 ghost use Rattle.std.specs.Prelude.{◌≡◌, Some};
 ghost use Rattle.std.specs.Option.{ok_or};
 ghost use Rattle.accounts.specs.Marks.{size_letter, size_of, size_text, kind_letter, kind_of, kind_text, state_number, state_of, state_text, unknown_text};

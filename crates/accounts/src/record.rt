@@ -2,7 +2,7 @@
 ghost use Rattle.std.specs.Prelude.{◌≡◌};
 ghost use Rattle.accounts.specs.Ranges.{account_in_range, savings_in_range, class_in_range, in_range, line_in_range};
 
-use super::limits::{MOST_ACCOUNT, MOST_PERIODS, MOST_UNITS, WHOLE};
+use super::limits::{MOST_ACCOUNT, MOST_CLASS, MOST_PERIODS, MOST_UNITS, WHOLE};
 
 // The size of a satellite: `S`, or `L` for a demand of 25 kW or more.
 #[derive(Clone, Copy, PartialEq, Eq, Debug, Default)]
@@ -41,7 +41,7 @@ pub struct Record {
     pub state: State,
     // units held
     pub held: u64,
-    // the last period billed, 0 for none
+    // the last period billed; by the rules of records it is a number from 0, which stands for none, to 1,200
     pub last: u32,
 }
 
@@ -71,7 +71,7 @@ fn savings_in_range(savings: u16) -> bool
 fn class_in_range(class: u8) -> bool
     ensures { result ≡ class_in_range class }
 {
-    class >= 1 && class <= 16
+    class >= 1 && class <= MOST_CLASS
 }
 
 impl Record {

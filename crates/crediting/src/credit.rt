@@ -6,7 +6,8 @@ ghost use Rattle.std.specs.Prelude.{◌≡◌, ℕ};
 // Service classes are numbered from 1 to 16.
 pub const CLASSES: u8 = 16;
 
-// An account has the same limit; neither crate rests on the other, since a method knows nothing of accounts.
+// An account's limit is stated in its own crate, since a method knows nothing of accounts; a crate below both, for
+// this number alone, would be no plainer.
 pub const MOST_UNITS: u64 = 1_000_000_000_000;
 
 // in cents

@@ -19,7 +19,7 @@ pub trait CreditMethod {
         ensures { result ≡ told_worth (worth self.now) class units };
 
     // The credit against a bill for an account that holds such units; both numbers are 0 outside
-    // the ranges.
+    // the ranges. Callers have the three numbers apart: a struct of them would be built for each call, and taken apart.
     fn credit(&self, class: u8, units: u64, bill: u64) -> Credit
         ensures applied { result.applied ≡ applied_credit (worth self.now) class units bill }
         ensures used { result.used ≡ units_used (worth self.now) class units bill }

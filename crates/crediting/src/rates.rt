@@ -4,9 +4,13 @@ ghost use Rattle.crediting.specs.Worths.{fair};
 ghost use Rattle.std.specs.Prelude.{◌≡◌, not, position, Some};
 ghost use Rattle.std.proofs.Common.{rules};
 
+use super::credit::CLASSES;
 use refusals::Numbered;
 use std::error::Error;
 use std::fmt;
+
+// one for each service class
+pub const RATES: usize = CLASSES as usize;
 
 // in ten-thousandths of a cent for a kilowatt-hour
 pub const MOST_RATE: u32 = 1_000_000;
@@ -74,9 +78,10 @@ pub fn judge(rates: &[u32]) -> Result<(), RatesRefusal>
     ensures answer { result ≡ judged rates.now }
     ensures told { Told rates.now result }
 {
-    if rates.len() != 16 {
+    if rates.len() != RATES {
         return Err(RatesRefusal::WrongCount);
     }
+    // a place that is found is the fault: `ok_or` would be the wrong way round
     match first_unfair(rates) {
         Some(place) => Err(RatesRefusal::OutOfRange { place }),
         None => Ok(()),

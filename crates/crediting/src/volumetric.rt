@@ -8,12 +8,12 @@ ghost use Rattle.crediting.specs.Ceilings.{class_rate, rate_lawful};
 
 use super::credit::{Credit, applied_credit, has_worth, in_ranges, is_class};
 use super::method::CreditMethod;
-use super::rates::{RatesRefusal, judge};
+use super::rates::{RATES, RatesRefusal, judge};
 
 // Each rate is 1 to 1,000,000 ten-thousandths of a cent.
 #[derive(Clone, Copy, Debug)]
 pub struct Volumetric {
-    rates: [u32; 16],
+    rates: [u32; RATES],
     ghost fair: { Fair rates },
 }
 
@@ -22,7 +22,7 @@ impl Volumetric {
     pub fn new() -> Self
         ensures { result.rates ≡ replicate 16 1 }
     {
-        Volumetric { rates: [1; 16] }
+        Volumetric { rates: [1; RATES] }
     }
 
     // Puts these rates in the place of all sixteen, unless they are refused.
@@ -40,11 +40,7 @@ impl Volumetric {
     pub fn rate(&self, class: u8) -> Option<u32>
         ensures { result ≡ (if is_class class then Some (rate_of self.now.rates class) else None) }
     {
-        if is_class(class) {
-            Some(self.rates[class as usize - 1])
-        } else {
-            None
-        }
+        is_class(class).then(|| self.class_rate(class))
     }
 }
 
@@ -61,8 +57,7 @@ impl CreditMethod for Volumetric {
         if !has_worth(class, units) {
             return 0;
         }
-        let rate = u64::from(self.rates[class as usize - 1]);
-        units * rate / 10_000
+        units * u64::from(self.class_rate(class)) / 10_000
     }
 
     fn credit(&self, class: u8, units: u64, bill: u64) -> Credit {
@@ -73,6 +68,13 @@ impl CreditMethod for Volumetric {
 }
 
 impl Volumetric {
+    fn class_rate(&self, class: u8) -> u32
+        requires { is_class class ≡ true }
+        ensures { result ≡ rate_of self.now.rates class }
+    {
+        self.rates[class as usize - 1]
+    }
+
     // A credit takes its cents over the rate, rounded up to whole units.
     #[tactic(auto, using(crate::proofs::Applying::used))]
     fn used(&self, class: u8, units: u64, bill: u64, applied: u64) -> u64
@@ -82,7 +84,6 @@ impl Volumetric {
         if !in_ranges(class, units, bill) {
             return 0;
         }
-        let rate = u64::from(self.rates[class as usize - 1]);
-        (applied * 10_000).div_ceil(rate)
+        (applied * 10_000).div_ceil(u64::from(self.class_rate(class)))
     }
 }

@@ -111,12 +111,13 @@ module _ (bs : List ℕ) where
     same_room = sym (cond-true (is_some (open_refusal bs)) 0 (capacity_of bs) h);
   }
 
-  -- an image that opens, and one that is refused
-  pub reads_ok : (n room : ℕ) → None ≡ open_refusal bs → n ≡ count_in bs → room ≡ capacity_of bs → Reads bs n room
-  reads_ok n room e a b = rw (a, b) (reads_open (count_in bs) (capacity_of bs) (none_open bs (sym e)))
+  -- an image that opens, or one that is refused
+  reads_by : (o : Option (ℕ × ℕ)) → open_refusal bs ≡ o → (n room : ℕ) → n ≡ cond (is_some o) 0 (count_in bs) → room ≡ cond (is_some o) 0 (capacity_of bs) → Reads bs n room
+  reads_by None e n room a b = rw (a, b) (reads_open (count_in bs) (capacity_of bs) (none_open bs e))
+  reads_by (Some x) e n room a b = rw (a, b) (reads_none (ap is_some e))
 
-  pub reads_err : (n room : ℕ) (r : ℕ × ℕ) → Some r ≡ open_refusal bs → n ≡ 0 → room ≡ 0 → Reads bs n room
-  reads_err n room r e a b = rw (a, b) (reads_none (ap is_some (sym e)))
+  pub reads_opened : (n room : ℕ) → n ≡ opened_count bs → room ≡ opened_room bs → Reads bs n room
+  reads_opened n room a b = reads_by (open_refusal bs) refl n room a b
 
   -- an image that lacks the room opens as nothing
   pub reads_lacking : true ≡ lacks_room bs → Reads bs 0 0

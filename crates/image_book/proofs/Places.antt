@@ -14,10 +14,10 @@ use Rattle.accounts.proofs.Finding.{find_position, distinct_more, found_present,
 use Rattle.accounts.proofs.Keeping.{every_push}
 use Rattle.record_codec.specs.Codec.{decoded}
 use Rattle.record_codec.proofs.Inverse.{holds_decoded, in_range_decoded}
-use Rattle.image_book.specs.Images.{capacity_of, slot, slots_in, held, account_in}
+use Rattle.image_book.specs.Images.{capacity_of, slot, slots_in, record_at, held, account_in}
 use Rattle.image_book.specs.Refusals.{unfit_after, unfit, first_unfit}
 use Rattle.image_book.specs.Reading.{Legible}
-use Rattle.image_book.proofs.Slots.{first_slots}
+use Rattle.image_book.proofs.Slots.{first_slots, record_here}
 
 pub some_of : {X : Type 0} (o : Option X) → is_some o ≡ true → (x : X) × (o ≡ Some x)
 some_of None h = grind arith
@@ -171,3 +171,8 @@ module _ (bs : List ℕ) where
   unfit_found i r l h e =
       ap is_some (found_held i r.account l h)
       ∙ (found_present r.account 0 (accounts (held i bs)) ∙ ap (unfit_after (accounts (held i bs))) (sym e))
+
+  -- and one that cannot be read is unfit
+  pub unfit_told : (i : ℕ) (t : Bool) (o : Option Record) → o ≡ record_at bs i → MatchOption o (t ≡ true) (λ r. t ≡ is_some (position (λ s. eqb (account_in s) r.account) (take i (slots_in bs)))) → i < capacity_of bs → Legible i bs → t ≡ unfit i bs
+  unfit_told i t None e m h l = m ∙ ap (unfit_after (accounts (held i bs))) (e ∙ record_here bs i h)
+  unfit_told i t (Some r) e m h l = m ∙ unfit_found i r l (omega arith) (sym (e ∙ record_here bs i h))

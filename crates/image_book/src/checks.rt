@@ -80,10 +80,9 @@ pub fn check_start(image: &[u8]) -> Result<(), ImageRefusal>
 fn unfit(image: &[u8], place: usize) -> bool
     ensures { place < capacity_of image.now → Legible place image.now → result ≡ unfit place image.now }
 {
-    match layout::record_at(image, place) {
-        None => true,
-        Some(record) => layout::place_of(image, place, record.account).is_some(),
-    }
+    layout::record_at(image, place).is_none_or(|record| {
+        layout::place_of(image, place, record.account).is_some()
+    })
 }
 
 // The first of so many records that is unfit.
@@ -99,6 +98,7 @@ pub(crate) fn opened_count(image: &[u8]) -> Result<usize, ImageRefusal>
     ensures count { IfOk result (λ n. n ≡ count_in image.now) }
 {
     let count = fitting_count(image)?;
+    // a place that is found is the fault: `ok_or` would be the wrong way round
     match first_unfit(image, count) {
         None => Ok(count),
         Some(place) => Err(ImageRefusal::UnfitRecord(place)),

@@ -8,8 +8,11 @@ ghost use Rattle.image_book.specs.Images.{count_at, capacity_of, start_of, slots
 use accounts::limits::MOST_RECORDS;
 use accounts::record::Record;
 use record_codec::codec::{RECORD_BYTES, decode, encode};
+use record_codec::numbers::number;
 
 const COUNT_BYTES: usize = 4;
+
+const ACCOUNT_BYTES: usize = 8;
 
 // The count in the first four bytes, or nothing where there are fewer.
 pub(crate) fn count(image: &[u8]) -> Option<usize>
@@ -61,8 +64,7 @@ pub(crate) fn place_of(image: &[u8], end: usize, account: u64) -> Option<usize>
 fn account_in(slot: &[u8; RECORD_BYTES]) -> u64
     ensures { result ≡ account_in slot.now }
 {
-    let [a, b, c, d, e, f, g, h, ..] = *slot;
-    u64::from_le_bytes([a, b, c, d, e, f, g, h])
+    number(&slot[..ACCOUNT_BYTES])
 }
 
 // Puts a record in a place.

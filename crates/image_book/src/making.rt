@@ -34,11 +34,10 @@ pub(crate) fn measure(image: &[u8]) -> Extent
     ensures reads { Reads image.now result.count result.room }
     ensures again { ComesBack image.now result.count result.room }
 {
-    match opened_count(image) {
-        Ok(count) => Extent {
+    opened_count(image)
+        .map(|count| Extent {
             count,
             room: layout::capacity(image),
-        },
-        Err(_) => Extent::default(),
-    }
+        })
+        .unwrap_or_default()
 }

@@ -17,10 +17,10 @@ const MOST_LOOKS: u64 = 64;
 fn slot(slots: usize, account: u64, looks: u64) -> Option<usize>
     ensures { MatchOption result (slots ≡ 0) (λ s. Slot slots account looks s) }
 {
-    if slots == 0 {
-        return None;
-    }
-    Some((account.wrapping_add(looks) % slots as u64) as usize)
+    account
+        .wrapping_add(looks)
+        .checked_rem(slots as u64)
+        .map(|slot| slot as usize)
 }
 
 // That slot, where it is free.
@@ -55,7 +55,7 @@ impl<'a, 'h, B: AccountBook> IndexedBook<'a, 'h, B> {
         ensures loan { loan_of result ≡ book.entry.ghost_name }
     {
         hints.fill(None);
-        // a book is read by place: an iterator over it would be one type more, for this loop alone
+        // each place is noted beside its record's account, so that a chain would first make pairs of the two
         for place in 0..book.count() {
             if let Some(record) = book.get(place) {
                 note(hints, record.account, place);

@@ -9,6 +9,27 @@ use accounts::record::{Kind, Record, Size, State};
 
 pub const RECORD_BYTES: usize = 36;
 
+// Where each field begins; it ends where the next begins. The filler is the last.
+const ACCOUNT: usize = 0;
+
+const PERCENTAGE: usize = 8;
+
+const SAVINGS: usize = 12;
+
+const CLASS: usize = 14;
+
+const SIZE: usize = 15;
+
+const KIND: usize = 16;
+
+const STATE: usize = 17;
+
+const HELD: usize = 18;
+
+const LAST: usize = 26;
+
+const FILLER: usize = 30;
+
 // The bytes of a record. Those of a record in range read back as it, and no others do.
 #[tactic(auto, using(crate::proofs::Inverse::inverse), unfolding(crate::specs::Codec::encoded))]
 pub fn encode(of: &Record) -> [u8; RECORD_BYTES]
@@ -17,15 +38,15 @@ pub fn encode(of: &Record) -> [u8; RECORD_BYTES]
     ensures only { (bs : List ℕ) → All (λ b. b < 256) bs → decoded bs ≡ Some of.now → bs ≡ result }
 {
     let mut bytes = [0u8; RECORD_BYTES];
-    bytes[0..8].copy_from_slice(&of.account.to_le_bytes());
-    bytes[8..12].copy_from_slice(&of.percentage.to_le_bytes());
-    bytes[12..14].copy_from_slice(&of.savings.to_le_bytes());
-    bytes[14] = of.class;
-    bytes[15] = of.size.into();
-    bytes[16] = of.kind.into();
-    bytes[17] = of.state.into();
-    bytes[18..26].copy_from_slice(&of.held.to_le_bytes());
-    bytes[26..30].copy_from_slice(&of.last.to_le_bytes());
+    bytes[ACCOUNT..PERCENTAGE].copy_from_slice(&of.account.to_le_bytes());
+    bytes[PERCENTAGE..SAVINGS].copy_from_slice(&of.percentage.to_le_bytes());
+    bytes[SAVINGS..CLASS].copy_from_slice(&of.savings.to_le_bytes());
+    bytes[CLASS] = of.class;
+    bytes[SIZE] = of.size.into();
+    bytes[KIND] = of.kind.into();
+    bytes[STATE] = of.state.into();
+    bytes[HELD..LAST].copy_from_slice(&of.held.to_le_bytes());
+    bytes[LAST..FILLER].copy_from_slice(&of.last.to_le_bytes());
     bytes
 }
 
@@ -45,22 +66,22 @@ pub fn decode(bytes: &[u8]) -> Option<Record>
     ensures { result ≡ decoded bytes.now }
 {
     let bytes: &[u8; RECORD_BYTES] = bytes.try_into().ok()?;
-    if field::<6>(bytes, 30) != [0; 6] {
+    if field::<6>(bytes, FILLER) != [0; 6] {
         return None;
     }
-    let size = Size::try_from(bytes[15]).ok()?;
-    let kind = Kind::try_from(bytes[16]).ok()?;
-    let state = State::try_from(bytes[17]).ok()?;
+    let size = Size::try_from(bytes[SIZE]).ok()?;
+    let kind = Kind::try_from(bytes[KIND]).ok()?;
+    let state = State::try_from(bytes[STATE]).ok()?;
     let read = Record {
-        account: u64::from_le_bytes(field(bytes, 0)),
-        percentage: u32::from_le_bytes(field(bytes, 8)),
-        savings: u16::from_le_bytes(field(bytes, 12)),
-        class: bytes[14],
+        account: u64::from_le_bytes(field(bytes, ACCOUNT)),
+        percentage: u32::from_le_bytes(field(bytes, PERCENTAGE)),
+        savings: u16::from_le_bytes(field(bytes, SAVINGS)),
+        class: bytes[CLASS],
         size,
         kind,
         state,
-        held: u64::from_le_bytes(field(bytes, 18)),
-        last: u32::from_le_bytes(field(bytes, 26)),
+        held: u64::from_le_bytes(field(bytes, HELD)),
+        last: u32::from_le_bytes(field(bytes, LAST)),
     };
     read.in_range().then_some(read)
 }

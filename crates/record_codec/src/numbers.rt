@@ -6,10 +6,7 @@ ghost use Rattle.std.specs.Int.{w64, from_le_bytes};
 fn byte(bytes: &[u8], place: usize) -> u8
     ensures { result ≡ slice_index bytes.now place }
 {
-    match bytes.get(place) {
-        Some(byte) => *byte,
-        None => 0,
-    }
+    bytes.get(place).copied().unwrap_or(0)
 }
 
 // The number that the bytes stand for; bytes past the eighth are not read.

@@ -18,7 +18,7 @@ pub trait Numbered: Display {
     fn number(&self) -> u8
         ensures { result ≡ number self.now };
 
-    // The place of the line, pair, record or rate at fault, from 0; 0 where none is told.
+    // The place of the line, pair, record or rate at fault, from 0; 0 where none is told, by the rules of the refusals.
     fn place(&self) -> usize
         ensures { result ≡ place self.now };
 

@@ -31,13 +31,6 @@ impl<'a> TableBook<'a> {
         TableBook { table, count: 0 }
     }
 
-    // How many places of the table may be used.
-    fn places(&self) -> usize
-        ensures { result ≡ room_of self.now }
-    {
-        self.table.len().min(MOST_RECORDS)
-    }
-
     // The places that hold records.
     fn records(&self) -> &[Record]
         ensures { result.now ≡ records_of self.now }
@@ -78,8 +71,10 @@ impl<'a> AccountBook for TableBook<'a> {
         self.count // as many of the first places
     }
 
-    fn capacity(&self) -> usize {
-        self.places() // however long the table
+    fn capacity(&self) -> usize
+        ensures { result ≡ room_of self.now }
+    {
+        self.table.len().min(MOST_RECORDS)
     }
 
     fn get(&self, place: usize) -> Option<Record>

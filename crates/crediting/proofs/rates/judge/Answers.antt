@@ -21,8 +21,8 @@ all rs count e =
 
 pub returns-in-Some-clause-told : goal.returns-in-Some-clause-told
 returns-in-Some-clause-told c =
-    let count : eqb (length c.args.rates.now) 16 ≡ true = eq-eqb _ _ c.if-rates-ne16.false in
+    let count : eqb (length c.args.rates.now) 16 ≡ true = eq-eqb _ _ c.if-rates-ne-RATES.false in
     (refl, rw count (first c.args.rates.now c.in-Some.place (sym c.in-Some.ensures)))
 
 pub returns-in-None-clause-told : goal.returns-in-None-clause-told
-returns-in-None-clause-told c = all c.args.rates.now c.if-rates-ne16.false (sym c.in-None.ensures)
+returns-in-None-clause-told c = all c.args.rates.now c.if-rates-ne-RATES.false (sym c.in-None.ensures)
