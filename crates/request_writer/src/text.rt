@@ -7,8 +7,8 @@ use accounts::record::Line;
 use requests::limits::FIELDS;
 use std::alloc::{AllocError, Global};
 
-// The thirty bytes of a line's fields. That its numbers fit is a premise, here and where it is handed on:
-// the entries are lent, and a list of a type of those that fit would be a copy of them.
+// The thirty bytes of a line's fields.
+// That its numbers fit is a premise, here and where it is handed on: a type would need a copy of the lent entries.
 #[tactic(auto, using(crate::proofs::Padded::form_padded))]
 fn form_text(line: &Line, heap: Global) -> Result<String, AllocError>
     requires { IsTrue (holds line.now) }
@@ -22,7 +22,7 @@ fn form_text(line: &Line, heap: Global) -> Result<String, AllocError>
         size,
         kind,
     } = *line;
-    // the widths stand in the format, which takes no constants, as places and widths do in the reader
+    // each width stands once here, in the format; the reader goes by places
     format!(in heap; "{account:011} {percentage:06} {savings:04} {class:02} {size} {kind}")
 }
 
