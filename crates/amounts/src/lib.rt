@@ -31,6 +31,7 @@ impl<const PLACES: u32> fmt::Display for Decimal<PLACES> {
     fn fmt<W: fmt::Write>(&self, f: &mut fmt::Formatter<W>) -> fmt::Result {
         let number = self.0;
         let width = PLACES as usize;
+        // the rule before the rare case: `map_or` would tell them the other way round
         let (whole, rest) = match 10u128.checked_pow(PLACES) {
             Some(one) => (number / one, number % one),
             None => (0, number),

@@ -42,6 +42,7 @@ fn unfit_first_and_last(rt: HostRuntime) {
         for place in 0..3usize {
             let mut image = whole();
             assert!(rt; at < 36);
+            // by index: chunks to be written would keep the image lent while it is checked
             image[4 + 36 * place + at] = value;
             assert_eq!(rt; check_open(&image), Err(ImageRefusal::UnfitRecord(place)));
             assert_eq!(rt; check_start(&image), Ok(()));
@@ -51,16 +52,12 @@ fn unfit_first_and_last(rt: HostRuntime) {
 
 #[test]
 fn repeated_account(rt: HostRuntime) {
-    let mut image = whole();
-    image[40] = 1;
-    assert_eq!(rt; check_open(&image), Err(ImageRefusal::UnfitRecord(1)));
-    let mut image = whole();
-    image[76] = 2;
-    image[77] = 0;
-    image[78] = 0;
-    image[79] = 0;
-    image[80] = 0;
-    assert_eq!(rt; check_open(&image), Err(ImageRefusal::UnfitRecord(2)));
+    let image: &mut [u8] = &mut whole();
+    image[40..48].copy_from_slice(&1u64.to_le_bytes());
+    assert_eq!(rt; check_open(image), Err(ImageRefusal::UnfitRecord(1)));
+    let image: &mut [u8] = &mut whole();
+    image[76..84].copy_from_slice(&2u64.to_le_bytes());
+    assert_eq!(rt; check_open(image), Err(ImageRefusal::UnfitRecord(2)));
 }
 
 // The first of two unfit records is told.

@@ -7,6 +7,7 @@ use image_book::checks::check_open;
 use std::process::Abort;
 use table_book::TableBook;
 
+// A call and its answer are values, since one list of both is made on three books; a closure is for one kind of book.
 #[derive(Clone, Copy)]
 enum Call {
     Count,

@@ -5,6 +5,9 @@ ghost use Rattle.std.specs.Prelude.{◌≡◌, Some};
 use super::field::{cut, number};
 use accounts::limits::MOST_ACCOUNT;
 use crediting::credit::{CLASSES, MOST_BILL, MOST_UNITS};
+use crediting::method::CreditMethod;
+use crediting::value_stack::ValueStack;
+use crediting::volumetric::Volumetric;
 use std::error::Error;
 use std::fmt;
 
@@ -97,8 +100,8 @@ pub fn read_entry(line: &[u8]) -> Result<Entry, Fault>
     let (mark, fields) = cut(line);
     match mark {
         [b'R'] => read_rate(fields),
-        [b'C'] => read_reading(Mark::Cents, fields),
-        [b'K'] => read_reading(Mark::KilowattHours, fields),
+        [ValueStack::MARK] => read_reading(Mark::Cents, fields),
+        [Volumetric::MARK] => read_reading(Mark::KilowattHours, fields),
         _ => Err(Fault::Mark),
     }
 }

@@ -93,7 +93,7 @@ mod tests {
         (17, 1, 1, 0, 0),
     ];
 
-    // class, units, and their worth by kilowatt-hours and by cents: a tuple, since with names each takes seven lines
+    // class, units, and their worth by kilowatt-hours and by cents: a table, with a row to a line
     const WORTHS: [(u8, u64, u64, u64); 11] = [
         (0, 5, 0, 0),
         (1, 0, 0, 0),

@@ -6,6 +6,7 @@ use anyhow::bail;
 use cabinet_month::entry::{Entry, Mark, Reading, read_entry};
 use cabinet_month::posting::{Figures, Posting, post, total};
 use crediting::method::CreditMethod;
+use crediting::rates::RATES;
 use crediting::value_stack::ValueStack;
 use crediting::volumetric::Volumetric;
 use refusals::Numbered;
@@ -15,7 +16,7 @@ use std::fmt::Display;
 // The lines of a month's file: a rate for each class, and the readings by their units.
 #[derive(Drop)]
 struct Month {
-    rates: [u32; 16],
+    rates: [u32; RATES],
     cents: Vec<Reading>,
     kilowatt_hours: Vec<Reading>,
 }
@@ -23,7 +24,7 @@ struct Month {
 impl Month {
     fn new(heap: Global) -> Month {
         Month {
-            rates: [1; 16],
+            rates: [1; RATES],
             cents: Vec::new(heap),
             kilowatt_hours: Vec::new(heap),
         }
@@ -108,6 +109,7 @@ fn table<M: CreditMethod>(
 fn run(rt: &HostRuntime) -> anyhow::Result<()> {
     let month = read_month(rt)?;
     let mut volumetric = Volumetric::new();
+    // what this program prints is fixed: a number and a place, with words of its own and not the refusal's
     if let Err(refusal) = volumetric.set_rates(&month.rates) {
         let number = refusal.number();
         let place = refusal.place();

@@ -79,8 +79,7 @@ fn print_records<B: AccountBook>(rt: &HostRuntime, title: &str, book: &B) -> io:
 
 // Twelve bytes to a line.
 fn print_bytes(rt: &HostRuntime, bytes: &[u8]) -> io::Result<()> {
-    for (i, line) in bytes.chunks(12).enumerate() {
-        let at = i * 12;
+    for (at, line) in (0usize..).step_by(12).zip(bytes.chunks(12)) {
         print!(rt; "{at:3}:")?;
         for b in line {
             print!(rt; " {b:02x}")?;
