@@ -1,5 +1,5 @@
-// Asks the cabinet for what the year's journal does not: packs and shows request files, prints the report of a quarter and
-// of a farm's project, and gives it texts, files, journals and options with a mistake.
+// Asks the cabinet for what the year's journal does not: packs and shows request files, prints the report of a quarter
+// and of a farm's project, and gives it texts, files, journals and options with a mistake.
 #![tactic(auto)]
 
 use cabinet_tasks::arguments::{finish, perform};
