@@ -20,8 +20,9 @@ pub fn cut(line: &[u8]) -> (&[u8], &[u8])
     }
 }
 
-// The number up to `most` that a field writes in decimal digits. Each reader of digits has a rule of its own for a
-// larger number: here there is none, a statement's word counts as the most, and a request's field is too narrow for one.
+// The number up to `most` that a field writes in decimal digits.
+// Each reader of digits has a rule of its own for a larger number: here it is none, a statement's word counts as the
+// most, and a request's field is too narrow for one.
 #[tactic(auto, using(crate::proofs::Numbers::gathers))]
 fn digits(field: &[u8], most: u64) -> Option<u64>
     ensures value { result ≡ up_to most field.now }
