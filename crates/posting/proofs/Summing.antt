@@ -1,10 +1,9 @@
 -- The records of a book, which are read by place.
-use Rattle.std.proofs.Common.{◌≡◌, ℕ, ◌+◌, ◌≤◌, ◌<◌, List, [], ◌∷◌, ◌++◌, length, Some, None, Option, sym, refl, ap, subst, true≢false, append_assoc, length-append, arith, add-one}
-use Rattle.std.specs.Fn.{Called}
+use Rattle.std.proofs.Common.{◌≡◌, ℕ, ◌≤◌, ◌<◌, List, [], ◌∷◌, ◌++◌, length, Some, None, Option, sym, refl, ap, subst, true≢false, append_assoc, length-append, arith, add-one}
 use Rattle.std.specs.Iterator.{Yields}
 use Rattle.std.specs.Iterator.Adapters.{filter_map_source, filter_map_steps}
 use Rattle.std.specs.List.{slice_get, filter_map, range_with_len}
-use Rattle.std.specs.Option.{MatchOption, IsSome, is_some}
+use Rattle.std.specs.Option.{MatchOption, is_some}
 use Rattle.std.specs.declared.iter.FilterMap.{FilterMap}
 use Rattle.std.proofs.lemmas.Iterator.Adapters.{YieldsAtMost}
 use denote.Param.Members.{Mut}

@@ -1,4 +1,4 @@
-use Rattle.std.proofs.Common.{rules, arith, ℕ, ◌≡◌, ◌∙◌, ◌^◌, ◌≤◌, ap, length, refl, sum_by}
+use Rattle.std.proofs.Common.{rules, arith, ℕ, ◌∙◌, ◌^◌, ◌≤◌, ap, length, refl, sum_by}
 use Rattle.std.specs.List.{slice_get, filter_map, range_with_len}
 use Rattle.std.proofs.lemmas.List.FromFn.{length-range_with_len}
 use Rattle.std.proofs.lemmas.Iterator.{YieldsList-from_range, YieldsList-from_map}
