@@ -1,4 +1,4 @@
-// The ledger's own state. The records are in its book.
+// The ledger's own state. The records are in its book, which it does not hold: the caller lends it to each call.
 ghost use Rattle.std.specs.Prelude.{◌+◌, ◌*◌, ◌≤◌};
 ghost use Rattle.ledger.specs.Phases.{applied_in, fees_in, open_periods};
 

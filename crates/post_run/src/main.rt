@@ -28,6 +28,7 @@ const FLAT: u64 = 20_010_000_002;
 
 const MILL: u64 = 20_010_000_003;
 
+// an exempt project; each program names its own
 const EXEMPT: Project = Project {
     smallest: 1,
     farm: false,

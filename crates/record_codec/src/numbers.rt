@@ -14,6 +14,7 @@ pub fn number(bytes: &[u8]) -> u64
     ensures value { result ≡ from_le_bytes w64 bytes.now }
     ensures bound { result < 256 ^ min 8 (length bytes.now) }
 {
+    // written out, since a slice may be shorter and then gives 0 for what it lacks
     u64::from_le_bytes([
         byte(bytes, 0),
         byte(bytes, 1),
