@@ -24,9 +24,16 @@ fn ask(rt: &HostRuntime, words: &[&str]) -> anyhow::Result<()> {
 fn main(rt: HostRuntime) -> anyhow::Result<ExitCode> {
     ask(&rt, &["--pack", "lines.txt", "lines.req"])?;
     ask(&rt, &["--pack", "spaced.txt", "spaced.req"])?;
-    for text in ["mistake.txt", "long.txt", "wide.txt", "none.txt"] {
+    for text in [
+        "mistake.txt",
+        "long.txt",
+        "wide.txt",
+        "none.txt",
+        "bytes.txt",
+    ] {
         ask(&rt, &["--pack", text, "mistake.req"])?;
     }
+    ask(&rt, &["--pack", "lines.txt", "nowhere/lines.req"])?;
     for file in ["lines.req", "spaced.req", "mistake.req"] {
         ask(&rt, &["--show", file])?;
     }

@@ -58,7 +58,9 @@ pub fn pack(rt: &HostRuntime, text: &str, file: &str) -> anyhow::Result<Ending> 
         }
     }
     let packed = write(entries.as_slice(), heap).map_err(|why| unpacked(why, numbers.as_slice()))?;
-    fs::write(rt, file, packed.as_slice())?;
+    if let Err(why) = fs::write(rt, file, packed.as_slice()) {
+        bail!("cabinet: {file} cannot be written: {why}");
+    }
     let lines = entries.len();
     let size = packed.len();
     println!(rt; "{file}: {lines} lines, {size} bytes")?;

@@ -3,11 +3,12 @@ ghost use Rattle.crediting.specs.Credits.{applied_credit, told_worth};
 ghost use Rattle.crediting.specs.Ranges.{is_class, has_worth, in_ranges};
 ghost use Rattle.std.specs.Prelude.{◌≡◌, ℕ};
 
+// How many classes there are and what an account may hold is stated in the accounts' crate too, since a method knows
+// nothing of accounts; a crate below both, for these numbers alone, would be no plainer.
+
 // Service classes are numbered from 1 to 16.
 pub const CLASSES: u8 = 16;
 
-// An account's limit is stated in its own crate, since a method knows nothing of accounts; a crate below both, for
-// this number alone, would be no plainer.
 pub const MOST_UNITS: u64 = 1_000_000_000_000;
 
 // in cents

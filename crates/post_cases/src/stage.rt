@@ -15,7 +15,7 @@ use ledger::ledger::Ledger;
 use std::alloc::Global;
 use table_book::TableBook;
 
-// An exempt project, which may ask for a single line.
+// An exempt project, which may ask for a single line; each program names projects of its own.
 pub const EXEMPT: Project = Project {
     smallest: 1,
     farm: false,

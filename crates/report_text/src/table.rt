@@ -112,7 +112,7 @@ fn table_line<L: Display, P: Display>(
     Ok(line)
 }
 
-// A satellite's line.
+// A satellite's line. It is no `Display` of the row, since lines that are of no row are made likewise.
 pub fn row_line(row: &Row, heap: Global) -> Result<String, AllocError>
     ensures { IfOk result (λ s. string_bytes s ≡ row_text row.now) }
 {
