@@ -1,7 +1,7 @@
 #!/usr/bin/env python3
 """Plants bugs, one at a time, in a copy of the repository, and reports which are refused.
 
-    python3 tools/plant_bugs.py [LIST ..] [--only TEXT] [--copy FOLDER]
+    python3 tools/plant_bugs.py [LIST ..] [--only TEXT] [--copy FOLDER] [--skip LOG]
 
 LIST is a file of bugs (without one: every list in tools/planted/). A bug is four lines, and a blank line follows it:
 
@@ -141,15 +141,18 @@ def main():
     words.add_argument("lists", nargs="*", metavar="LIST", help="a file of bugs; without one every list in tools/planted/")
     words.add_argument("--only", default="", metavar="TEXT", help="only bugs that have this in their name or their file")
     words.add_argument("--copy", default="/tmp/planted", metavar="FOLDER", help="where the copy is, or is made")
+    words.add_argument("--skip", metavar="LOG", help="a file of what a run printed: its bugs are passed over")
     given = words.parse_args()
     here = os.path.dirname(os.path.dirname(os.path.abspath(__file__)))
     if not os.path.exists(given.copy):
         shutil.copytree(here, given.copy, symlinks=True)
     deps = crates(given.copy)
+    lines = open(given.skip, encoding="utf-8") if given.skip else ()
+    told = {tuple(line.split(" | ")[:2]) for line in lines}
     caught = missed = 0
     for path in given.lists or sorted(glob.glob(f"{here}/tools/planted/*.txt")):
         for bug in bugs(path):
-            if given.only not in bug["bug"] + bug["file"]:
+            if given.only not in bug["bug"] + bug["file"] or (bug["bug"], bug["file"]) in told:
                 continue
             target = f"{given.copy}/{bug['file']}"
             text = open(target, encoding="utf-8").read()
