@@ -6,6 +6,13 @@ use Rattle.std.proofs.lemmas.Bool.{leb-true, leb-false, and_parts, both_ways, ca
 use Rattle.crediting.specs.Credits.{Credited, Lawful, TheCredit, Within, applied_credit, smallest, told_worth, units_used}
 use Rattle.crediting.specs.Ranges.{has_worth, in_ranges, is_class}
 
+-- what is told of units is worth at most 10^14 cents
+pub told_most : (W : ℕ → ℕ → ℕ) (k u : ℕ) → (is_class k ≡ true → Lawful (W k)) → told_worth W k u ≤ 100_000_000_000_000
+told_most W k u law =
+    cond_both (has_worth k u) (W k u) 0 (λ x. x ≤ 100_000_000_000_000)
+    (λ ok. (law (and_parts (is_class k) _ ok).0).bounded u (leb-true u 1_000_000_000_000 (and_parts (is_class k) _ ok).1))
+    (λ _. omega arith)
+
 -- never more than there are
 pub smallest_within : (W : ℕ → ℕ) (c u : ℕ) → smallest W c u ≤ u
 unfolding smallest

@@ -1,5 +1,5 @@
 // The interface of a crediting method.
-ghost use Rattle.std.specs.Prelude.{◌≡◌, ℕ, true};
+ghost use Rattle.std.specs.Prelude.{◌≡◌, ◌≤◌, ℕ, true};
 ghost use Rattle.crediting.specs.Credits.{Lawful, TheCredit, Within, applied_credit, told_worth, units_used};
 ghost use Rattle.crediting.specs.Ranges.{in_ranges, is_class};
 
@@ -16,7 +16,8 @@ pub trait CreditMethod {
 
     // The worth of units of a class in cents; 0 outside the ranges.
     fn worth(&self, class: u8, units: u64) -> u64
-        ensures { result ≡ told_worth (worth self.now) class units };
+        ensures value { result ≡ told_worth (worth self.now) class units }
+        ensures most { result ≤ 100_000_000_000_000 };
 
     // The credit against a bill for an account that holds such units; both numbers are 0 outside
     // the ranges. Callers have the three numbers apart: a struct of them would be built for each call, and taken apart.

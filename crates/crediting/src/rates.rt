@@ -1,5 +1,5 @@
 // Sixteen rates, one for each service class, and why a list of rates is refused.
-ghost use Rattle.crediting.specs.Refusals.{Told, judged, number, place as place_of, reason};
+ghost use Rattle.crediting.specs.Refusals.{OnePlace, Told, judged, number, place as place_of, reason};
 ghost use Rattle.crediting.specs.Worths.{fair};
 ghost use Rattle.std.specs.Prelude.{◌≡◌, not, position, Some};
 ghost use Rattle.std.proofs.Common.{rules};
@@ -77,6 +77,7 @@ fn first_unfair(rates: &[u32]) -> Option<usize>
 pub fn judge(rates: &[u32]) -> Result<(), RatesRefusal>
     ensures answer { result ≡ judged rates.now }
     ensures told { Told rates.now result }
+    ensures one { OnePlace rates.now }
 {
     if rates.len() != RATES {
         return Err(RatesRefusal::WrongCount);
