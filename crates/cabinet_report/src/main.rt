@@ -3,21 +3,42 @@
 #![tactic(auto)]
 
 use cabinet_tasks::arguments::{finish, perform};
+use cabinet_tasks::ending::Ending;
+use std::fs;
 use std::process::ExitCode;
 
-// How a task ended, or what was wrong.
-fn ask(rt: &HostRuntime, words: &[&str]) -> anyhow::Result<()> {
+fn print_words(rt: &HostRuntime, words: &[&str]) -> anyhow::Result<()> {
     print!(rt; "$ cabinet")?;
     for word in words {
         print!(rt; " {word}")?;
     }
-    println!(rt; "")?;
-    match perform(rt, words) {
+    Ok(())
+}
+
+// How a task ended, or what was wrong.
+fn print_end(rt: &HostRuntime, end: anyhow::Result<Ending>) -> anyhow::Result<()> {
+    match end {
         Ok(ending) => println!(rt; "{ending}")?,
         Err(why) => println!(rt; "{why}")?,
     }
     println!(rt; "")?;
     Ok(())
+}
+
+// Asks with nothing on standard input.
+fn ask(rt: &HostRuntime, words: &[&str]) -> anyhow::Result<()> {
+    print_words(rt, words)?;
+    println!(rt; "")?;
+    let nothing: &[u8] = &[];
+    print_end(rt, perform(rt, nothing, words))
+}
+
+// Asks with a journal on standard input.
+fn pipe(rt: &HostRuntime, journal: &str, words: &[&str]) -> anyhow::Result<()> {
+    let text = fs::read(rt, journal)?;
+    print_words(rt, words)?;
+    println!(rt; " < {journal}")?;
+    print_end(rt, perform(rt, text.as_slice(), words))
 }
 
 // It ends as the cabinet does on a request file that is refused: with status 1.
@@ -59,10 +80,17 @@ fn main(rt: HostRuntime) -> anyhow::Result<ExitCode> {
     ] {
         ask(&rt, &[journal])?;
     }
+    for journal in ["quarter.journal", "short.journal"] {
+        pipe(&rt, journal, &[])?;
+        pipe(&rt, journal, &["--report"])?;
+    }
+    ask(&rt, &[])?;
+    ask(&rt, &["--report"])?;
     ask(&rt, &["--pack", "lines.txt"])?;
     ask(&rt, &["--show"])?;
     ask(&rt, &["--print"])?;
     ask(&rt, &["--report", "quarter.journal", "short.journal"])?;
     ask(&rt, &["--help"])?;
-    finish(&rt, perform(&rt, &["--show", "torn.req"]))
+    let nothing: &[u8] = &[];
+    finish(&rt, perform(&rt, nothing, &["--show", "torn.req"]))
 }

@@ -1,4 +1,4 @@
-// What the words behind the program's name ask for.
+// What the words behind the program's name ask for, and how the program ends.
 use super::books::{post_file, post_input};
 use super::ending::Ending;
 use super::files::{pack, show};
@@ -6,18 +6,29 @@ use super::help::HELP;
 use super::log::Log;
 use super::report::Report;
 use anyhow::bail;
+use std::env;
+use std::io::{Eprint, Read};
 use std::process::ExitCode;
 
 const EXPLAINED: &str = "cabinet --help explains";
 
-pub fn perform(rt: &HostRuntime, words: &[&str]) -> anyhow::Result<Ending> {
+// Does what the words behind the program's name ask for.
+pub fn run(rt: &HostRuntime) -> anyhow::Result<ExitCode> {
+    let heap = rt.alloc();
+    let args: Vec<String> = env::args(rt)?.skip(1).collect(heap)?;
+    let words: Vec<&str> = args.iter().map(|word| word.as_str()).collect(heap)?;
+    finish(rt, perform(rt, rt.stdin(), words.as_slice()))
+}
+
+// A journal that the words do not name stands on `input`.
+pub fn perform<I: Read>(rt: &HostRuntime, input: I, words: &[&str]) -> anyhow::Result<Ending> {
     match *words {
-        [] => post_input(rt, &Log),
+        [] => post_input(rt, &Log, input),
         ["--help"] => {
             rt.print(HELP)?;
             Ok(Ending::Done)
         }
-        ["--report"] => post_input(rt, &Report),
+        ["--report"] => post_input(rt, &Report, input),
         ["--report", name] => post_file(rt, &Report, name),
         ["--pack", text, file] => pack(rt, text, file),
         ["--show", file] => show(rt, file),
@@ -30,7 +41,7 @@ pub fn perform(rt: &HostRuntime, words: &[&str]) -> anyhow::Result<Ending> {
 }
 
 // The status of the program; what could not be understood, read or done is told on standard error.
-pub fn finish(rt: &HostRuntime, end: anyhow::Result<Ending>) -> anyhow::Result<ExitCode> {
+pub fn finish<R: Eprint>(rt: &R, end: anyhow::Result<Ending>) -> anyhow::Result<ExitCode> {
     match end {
         Ok(ending) => Ok(ending.into()),
         Err(why) => {

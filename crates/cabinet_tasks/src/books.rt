@@ -31,10 +31,14 @@ const MOST_IMAGE: u64 = 4 + RECORD_BYTES as u64 * MOST_RECORDS;
 // Four slots to a record, so that an account is mostly found at the first look.
 const SLOTS: usize = 4 * limits::MOST_RECORDS;
 
-// Posts the journal that stands on standard input.
-pub fn post_input<P: Paper>(rt: &HostRuntime, paper: &P) -> anyhow::Result<Ending> {
+// Posts the journal that stands on an input.
+pub fn post_input<P: Paper, I: Read>(
+    rt: &HostRuntime,
+    paper: &P,
+    mut input: I,
+) -> anyhow::Result<Ending> {
     let mut text = Vec::new(rt.alloc());
-    rt.stdin().read_to_end(&mut text)?;
+    input.read_to_end(&mut text)?;
     post_text(rt, paper, "", text.as_slice())
 }
 
@@ -68,7 +72,7 @@ fn post_text<P: Paper>(
 
 // Posts entries in a new book of the kind that the head names.
 fn post_in_book<M: Rated + Drop, P: Paper>(
-    progress: &mut Progress,
+    progress: &mut Progress<HostRuntime>,
     paper: &P,
     head: Head,
     entries: &[Entry],
@@ -96,7 +100,7 @@ fn post_in_book<M: Rated + Drop, P: Paper>(
 
 // Posts entries in a book, with hints of where its accounts stand.
 fn post_indexed<M: Rated + Drop, B: AccountBook, P: Paper>(
-    progress: &mut Progress,
+    progress: &mut Progress<HostRuntime>,
     paper: &P,
     head: Head,
     book: &mut B,

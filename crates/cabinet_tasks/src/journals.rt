@@ -37,7 +37,7 @@ fn read_requests(rt: &HostRuntime, folder: &str, entries: &mut [Entry]) -> anyho
 
 // The journal of a text with its request files.
 pub(crate) fn journal_of(
-    progress: &mut Progress,
+    progress: &mut Progress<HostRuntime>,
     folder: &str,
     text: &[u8],
 ) -> anyhow::Result<Journal> {

@@ -27,7 +27,7 @@ pub struct Log;
 impl Paper for Log {
     fn print<M: CreditMethod + Drop, B: AccountBook>(
         &self,
-        progress: &mut Progress,
+        progress: &mut Progress<HostRuntime>,
         project: Project,
         book: &mut B,
         plan: &Plan<M>,
@@ -65,7 +65,7 @@ impl Paper for Log {
 
 // A line for each statement that answers; those that are calls take the answers in order.
 fn print_answers<W: Write>(
-    progress: &mut Progress,
+    progress: &mut Progress<HostRuntime>,
     out: &mut W,
     notes: &[Note],
     answers: &[Result<Done, Refusal>],

@@ -9,7 +9,7 @@ use posting::plan::Plan;
 pub trait Paper {
     fn print<M: CreditMethod + Drop, B: AccountBook>(
         &self,
-        progress: &mut Progress,
+        progress: &mut Progress<HostRuntime>,
         project: Project,
         book: &mut B,
         plan: &Plan<M>,

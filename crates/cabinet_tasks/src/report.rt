@@ -87,7 +87,7 @@ fn print_sheet<W: Write>(
 
 // Performs calls one by one, and prints the report of each period that is closed; answers how many were refused.
 fn print_periods<M: CreditMethod, B: AccountBook, W: Write>(
-    progress: &mut Progress,
+    progress: &mut Progress<HostRuntime>,
     out: &mut W,
     ledger: &mut Ledger,
     book: &mut B,
@@ -139,7 +139,7 @@ pub struct Report;
 impl Paper for Report {
     fn print<M: CreditMethod + Drop, B: AccountBook>(
         &self,
-        progress: &mut Progress,
+        progress: &mut Progress<HostRuntime>,
         project: Project,
         book: &mut B,
         plan: &Plan<M>,
