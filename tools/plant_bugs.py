@@ -1,7 +1,7 @@
 #!/usr/bin/env python3
 """Plants bugs, one at a time, in a copy of the repository, and reports which are refused.
 
-    python3 tools/plant_bugs.py [LIST ..] [--only TEXT] [--copy FOLDER] [--skip LOG]
+    python3 tools/plant_bugs.py [LIST ..] [--only TEXT] [--copy FOLDER] [--skip LOG] [--near] [--jobs N]
 
 LIST is a file of bugs (without one: every list in tools/planted/). A bug is four lines, and a blank line follows it:
 
@@ -14,6 +14,7 @@ LIST is a file of bugs (without one: every list in tools/planted/). A bug is fou
 Where that still proves it, each program above it is built with `rt run`, and what it prints is compared with its file
 stdout; then the crates that rest on it are checked, with `rt test` where they are tests. What is printed for each bug: the
 verdict (by what it is refused, or PROVED), and the first complaint. A text that cannot be read or compiled has no verdict.
+With --near nothing but the bug's own crate is looked at, and a bug that is proved there is LEFT for a run without it.
 The status is 1 where a bug is caught by nothing.
 
 The copy is made once in FOLDER (/tmp/planted without it), with what `rt check` kept in each out/, so that only what a bug
@@ -60,8 +61,8 @@ def above(deps, crate):
     return found
 
 
-def rt(folder, word):
-    done = subprocess.run(["rt", word], cwd=folder, stdin=subprocess.DEVNULL, capture_output=True, text=True, errors="replace")
+def rt(folder, word, *more):
+    done = subprocess.run(["rt", word, *more], cwd=folder, stdin=subprocess.DEVNULL, capture_output=True, text=True, errors="replace")
     return done.returncode, done.stdout.rstrip().split("\n"), done.stderr.split("\n")
 
 
@@ -72,9 +73,9 @@ def complaint(lines):
     return next((line for line in told if not re.match(GONE, line)), told[0] if told else "")[:200]
 
 
-def check(folder):
+def check(folder, jobs):
     """How a check of a crate ends: nothing where it is proved, else by what it is refused, and the first complaint."""
-    status, lines, errors = rt(folder, "check")
+    status, lines, errors = rt(folder, "check", *jobs)
     if status == 0 and lines[-1].startswith("logic=proved"):
         return "", ""
     place, name = complaint(lines + errors), os.path.basename(folder)
@@ -110,14 +111,23 @@ def prints(folder):
     return "", ""
 
 
-def verdict(root, deps, bug):
+def verdict(root, deps, bug, given):
     crate = bug["file"].split("/")[1]
-    said, place = check(f"{root}/crates/{crate}")
+    jobs = ["--jobs", given.jobs] if given.jobs else []
+    said, place = check(f"{root}/crates/{crate}", jobs)
     if said:
         return said, place
+    if given.near:
+        return "LEFT", ""
     uppers = above(deps, crate)
     programs = [name for name in [crate, *uppers] if os.path.exists(f"{root}/crates/{name}/src/main.rt")]
-    for name in programs:
+
+    def printed(name):
+        file = f"{root}/crates/{name}/stdout"
+        return os.path.getsize(file) if os.path.exists(file) else 0
+
+    # the ones that print most are looked at first, since they find most
+    for name in sorted(programs, key=printed, reverse=True):
         said, place = prints(f"{root}/crates/{name}")
         if said:
             return said, place
@@ -130,7 +140,7 @@ def verdict(root, deps, bug):
                 failed = [line for line in lines + errors if "FAILED" in line]
                 return f"refused by the tests of {name}", (failed or [complaint(lines + errors)])[0]
         else:
-            said, place = check(f"{root}/crates/{name}")
+            said, place = check(f"{root}/crates/{name}", jobs)
             if said:
                 return said, place
     return "PROVED", ""
@@ -142,6 +152,8 @@ def main():
     words.add_argument("--only", default="", metavar="TEXT", help="only bugs that have this in their name or their file")
     words.add_argument("--copy", default="/tmp/planted", metavar="FOLDER", help="where the copy is, or is made")
     words.add_argument("--skip", metavar="LOG", help="a file of what a run printed: its bugs are passed over")
+    words.add_argument("--near", action="store_true", help="check the bug's own crate alone")
+    words.add_argument("--jobs", metavar="N", help="how many proofs are made side by side")
     given = words.parse_args()
     here = os.path.dirname(os.path.dirname(os.path.abspath(__file__)))
     if not os.path.exists(given.copy):
@@ -163,7 +175,7 @@ def main():
             with open(target, "w", encoding="utf-8") as file:
                 file.write(text.replace(bug["old"], bug["new"]))
             try:
-                said, place = verdict(given.copy, deps, bug)
+                said, place = verdict(given.copy, deps, bug, given)
             finally:
                 with open(target, "w", encoding="utf-8") as file:
                     file.write(text)

@@ -80,10 +80,8 @@ fn main(rt: HostRuntime) -> anyhow::Result<ExitCode> {
     ] {
         ask(&rt, &[journal])?;
     }
-    for journal in ["quarter.journal", "short.journal"] {
-        pipe(&rt, journal, &[])?;
-        pipe(&rt, journal, &["--report"])?;
-    }
+    pipe(&rt, "quarter.journal", &[])?;
+    pipe(&rt, "quarter.journal", &["--report"])?;
     ask(&rt, &[])?;
     ask(&rt, &["--report"])?;
     ask(&rt, &["--pack", "lines.txt"])?;

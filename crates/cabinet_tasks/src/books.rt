@@ -32,7 +32,7 @@ const MOST_IMAGE: u64 = 4 + RECORD_BYTES as u64 * MOST_RECORDS;
 const SLOTS: usize = 4 * limits::MOST_RECORDS;
 
 // Posts the journal that stands on an input.
-pub fn post_input<P: Paper, I: Read>(
+pub fn post_input<P: Paper, I: Read + Drop>(
     rt: &HostRuntime,
     paper: &P,
     mut input: I,

@@ -7,10 +7,11 @@ mod tests {
     use cabinet_tasks::arguments::finish;
     use cabinet_tasks::ending::Ending;
     use cabinet_tasks::progress::Progress;
+    use std::alloc::Global;
     use std::cell::{Cell, RefCell};
-    use std::fmt::{Display, Write};
+    use std::fmt::Display;
     use std::io;
-    use std::io::Eprint;
+    use std::io::{Eprint, Write};
     use std::process::{Abort, ExitCode};
     use std::time::{Clock, Duration};
 
@@ -18,15 +19,19 @@ mod tests {
     #[derive(Drop)]
     struct Desk {
         now: Cell<Duration>,
-        told: RefCell<String>,
+        told: RefCell<Vec<u8>>,
     }
 
     impl Desk {
-        fn new(rt: &HostRuntime) -> Desk {
+        fn new(heap: Global) -> Desk {
             Desk {
                 now: Cell::new(Duration::from_secs(100)),
-                told: RefCell::new(String::new(rt.alloc())),
+                told: RefCell::new(Vec::new(heap)),
             }
+        }
+
+        fn told(self) -> Vec<u8> {
+            self.told.into_inner()
         }
     }
 
@@ -42,33 +47,47 @@ mod tests {
 
     impl Eprint for Desk {
         fn eprint<D: Display + Drop>(&self, value: D) -> io::Result<()> {
-            let mut told = self.told.borrow_mut();
-            write!(told, "{value}")
+            match self.told.try_borrow_mut() {
+                Ok(mut told) => write!(told, "{value}"),
+                Err(_) => Err(io::Error::from(io::ErrorKind::Other)),
+            }
         }
 
         fn eprintln<D: Display + Drop>(&self, value: D) -> io::Result<()> {
-            let mut told = self.told.borrow_mut();
-            writeln!(told, "{value}")
+            self.eprint(value)?;
+            self.eprint("\n")
         }
     }
 
-    // A task that was done tells nothing; a refusal was printed; a mistake is told once. The statuses are 0, 1 and 1.
-    #[test]
-    fn mistakes_are_told_and_end_with_one(rt: HostRuntime) -> anyhow::Result<()> {
-        let desk = Desk::new(&rt);
-        assert_eq!(rt; finish(&desk, Ok(Ending::Done))?, ExitCode::SUCCESS);
-        assert_eq!(rt; finish(&desk, Ok(Ending::Refused))?, ExitCode::FAILURE);
-        assert_eq!(rt; desk.told.borrow().as_str(), "");
-        let end = finish(&desk, Err(anyhow!("line 3: a number is wanted")))?;
-        assert_eq!(rt; end, ExitCode::FAILURE);
-        assert_eq!(rt; desk.told.borrow().as_str(), "line 3: a number is wanted\n");
+    // How a task ends, with its status and what is told of it.
+    fn ends(
+        rt: &impl Abort,
+        desk: Desk,
+        end: anyhow::Result<Ending>,
+        status: ExitCode,
+        told: &[u8],
+    ) -> anyhow::Result<()> {
+        assert_eq!(rt; finish(&desk, end)?, status);
+        assert_eq!(rt; desk.told().as_slice(), told);
         Ok(())
     }
 
-    // Nothing within the first second, and one line in each later one.
+    // Of a task that was done nothing is told, nor of a refusal, which was printed; a mistake is told once.
     #[test]
-    fn progress_is_told_once_a_second(rt: HostRuntime) -> anyhow::Result<()> {
-        let desk = Desk::new(&rt);
+    fn endings(rt: HostRuntime) -> anyhow::Result<()> {
+        let heap = rt.alloc();
+        let (done, refused) = (Ok(Ending::Done), Ok(Ending::Refused));
+        ends(&rt, Desk::new(heap), done, ExitCode::SUCCESS, b"")?;
+        ends(&rt, Desk::new(heap), refused, ExitCode::FAILURE, b"")?;
+        let mistake = anyhow!("journal line 3: a number is wanted");
+        let told = b"journal line 3: a number is wanted\n";
+        ends(&rt, Desk::new(heap), Err(mistake), ExitCode::FAILURE, told)
+    }
+
+    // Nothing within the first second, and one line in each later one in which there is something to tell.
+    #[test]
+    fn progress(rt: HostRuntime) -> anyhow::Result<()> {
+        let desk = Desk::new(rt.alloc());
         let mut progress = Progress::start(&desk)?;
         for (milliseconds, count) in [
             (0, 1),
@@ -85,7 +104,7 @@ mod tests {
             progress.tell(count, "lines are read")?;
         }
         let told = "cabinet: 3 lines are read\ncabinet: 5 lines are read\ncabinet: 7 lines are read\ncabinet: 9 lines are read\n";
-        assert_eq!(rt; desk.told.borrow().as_str(), told);
+        assert_eq!(rt; desk.told().as_slice(), told.as_bytes());
         Ok(())
     }
 }

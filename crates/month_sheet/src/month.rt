@@ -40,7 +40,7 @@ impl Month {
 }
 
 // Reads a month to its end, or tells its first line that cannot be understood.
-pub fn read_month<R: BufRead>(input: R, heap: Global) -> anyhow::Result<Month> {
+pub fn read_month<R: BufRead + Drop>(input: R, heap: Global) -> anyhow::Result<Month> {
     let mut month = Month::new(heap);
     for (number, line) in (1u64..).zip(input.lines(heap)) {
         let line = line?;

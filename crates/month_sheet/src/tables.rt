@@ -59,7 +59,7 @@ fn table<M: CreditMethod, W: Write>(
 }
 
 // Prints the tables of a month, once all of it is understood and its rates are accepted.
-pub fn post_month<R: BufRead, W: Write>(
+pub fn post_month<R: BufRead + Drop, W: Write>(
     input: R,
     out: &mut W,
     heap: Global,

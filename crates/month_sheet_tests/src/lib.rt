@@ -4,11 +4,16 @@
 #[cfg(test)]
 mod tests {
     use month_sheet::tables::post_month;
+    use std::alloc::Global;
     use std::process::Abort;
 
     // How a month ends, and what is printed of it.
-    fn refuses(rt: &HostRuntime, month: &str, why: &str) -> anyhow::Result<()> {
-        let heap = rt.alloc();
+    fn refuses(
+        rt: &impl Abort,
+        month: &str,
+        why: &str,
+        heap: Global,
+    ) -> anyhow::Result<()> {
         let mut out: Vec<u8> = Vec::new(heap);
         match post_month(month.as_bytes(), &mut out, heap) {
             Ok(()) => assert!(rt; false, "{month}"),
@@ -21,26 +26,36 @@ mod tests {
     // The first line in fault is told by its number from 1, and nothing is printed of the lines ahead of it.
     #[test]
     fn lines_that_are_not_understood(rt: HostRuntime) -> anyhow::Result<()> {
-        refuses(&rt, "X\n", "line 1: expected R, C or K as the first field")?;
+        let heap = rt.alloc();
+        refuses(
+            &rt,
+            "X\n",
+            "line 1: expected R, C or K as the first field",
+            heap,
+        )?;
         refuses(
             &rt,
             "R 1 5\nC 20010000001 1 10 20\nC 20010000001 17 10 20\nX\n",
             "line 3: expected a service class from 1 to 16",
+            heap,
         )
     }
 
     // The first rate out of range is told by its place from 0, and nothing is printed.
     #[test]
     fn rates_that_are_refused(rt: HostRuntime) -> anyhow::Result<()> {
+        let heap = rt.alloc();
         refuses(
             &rt,
             "R 16 1000001\nC 20010000001 1 10 20\n",
             "refusal 8 at place 15: a rate is 1 to 1000000",
+            heap,
         )?;
         refuses(
             &rt,
             "R 2 0\nR 3 0\nK 20010000001 1 10 20\n",
             "refusal 8 at place 1: a rate is 1 to 1000000",
+            heap,
         )
     }
 
