@@ -1,11 +1,16 @@
-// Postings worked by hand, shown of the definitions that the ledger's calls are proved equal to.
+// Postings, refusals and a history worked by hand, shown of the definitions that the ledger's calls are proved equal to.
 #![tactic(auto)]
 
-ghost use Rattle.std.specs.Prelude.{◌≡◌};
+ghost use Rattle.std.specs.Prelude.{◌≡◌, Err, Vec};
+ghost use Rattle.std.specs.declared.alloc.Global.{Global};
+ghost use Rattle.accounts.specs.declared.record.Line.{Line};
 ghost use Rattle.cases.specs.Cases.{WorkedPostings, member, rated};
+ghost use Rattle.cases.specs.Checks.{WorkedChecks, several};
+ghost use Rattle.cases.specs.History.{WorkedHistory, worked};
+ghost use Rattle.journal.specs.Histories.{used_by};
 ghost use Rattle.ledger.specs.Steps.{posting};
 
-use ledger::call::Posting;
+use ledger::call::{Posting, Refusal};
 
 // The twelve cases hold. The answer is the posting of one of them: a member with a savings rate of 10 percent who holds
 // 681 kilowatt-hours at 10.946 cents is billed 200 dollars.
@@ -19,4 +24,22 @@ pub fn worked_postings() -> Posting
         net: 745,
         fee: 6_709,
     }
+}
+
+// The worked calls are answered as by hand, at the edges of their ranges and where more than one check fails. The answer
+// is that to a request with several faults: a line out of range is told ahead of the others.
+pub fn worked_checks() -> Refusal
+    ensures checks { WorkedChecks }
+    ensures value { Err result ≡ several }
+{
+    Refusal::LineOutOfRange { place: 2 }
+}
+
+// The worked history says of each account what was found by hand. The answer is what the bills of one account used, its
+// final bill among them.
+pub fn worked_history() -> u64
+    ensures history { WorkedHistory }
+    ensures value { (first second : Vec Line Global) → result ≡ used_by 1 (worked first second) }
+{
+    150
 }

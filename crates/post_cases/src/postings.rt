@@ -2,9 +2,9 @@
 use super::group::Group;
 use super::stage::{EXEMPT, on_both};
 use super::steps::{Act, Step, bill, expects, last, line, monthly, one, rated, three, two};
-use super::told::{Fact, amount, declined, declined_at, ended, posted, settled};
+use super::told::{Fact, Refused, amount, declined, declined_at, ended, posted, settled};
 use accounts::record::{Kind, Line};
-use cases::worked_postings;
+use cases::{worked_checks, worked_history, worked_postings};
 
 // At 0.4 cents, 9 kilowatt-hours are worth 3 cents. A cent takes 3 of them, and 6 are left.
 // Had the 2 cents left over been turned back into kilowatt-hours, 5 would be left, and one of the 9 would be gone.
@@ -141,6 +141,16 @@ pub fn cases(rt: &HostRuntime) -> anyhow::Result<()> {
         "681 at 10.946 cents",
         posted(7_454, 681, 745, 6_709),
         Ok(Fact::Posted(worked_postings())),
+    )?;
+    group.show(
+        "first of several faults",
+        declined_at(13, 2),
+        Err(Refused::from(worked_checks())),
+    )?;
+    group.show(
+        "units used in a history",
+        amount(150),
+        Ok(Fact::Amount(worked_history())),
     )?;
     on_both(rt, "units stay", EXEMPT, &units_stay())?;
     on_both(rt, "cents stay", EXEMPT, &cents_stay())?;

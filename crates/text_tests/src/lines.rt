@@ -51,6 +51,9 @@ fn every_statement(rt: HostRuntime) -> Result<(), Fail> {
         "rates 109450 0 1000000",
         "rates 109450 0 1000000",
     )?;
+    // how many rates there may be is judged where they are set
+    let seventeen = "rates 1 2 3 4 5 6 7 8 9 10 11 12 13 14 15 16 17";
+    says(&rt, heap, seventeen, seventeen)?;
     says(
         &rt,
         heap,

@@ -1,0 +1,139 @@
+-- Calls at the edges of their ranges, and calls with more than one fault, of which the first check that fails is told.
+use Rattle.std.specs.Prelude.{◌≡◌, ℕ, true, false, List, [], ◌∷◌, Some, None, Ok, Err, Option, Result}
+use Rattle.accounts.specs.declared.record.Line.{Line}
+use Rattle.accounts.specs.declared.record.Record.{Record}
+use Rattle.accounts.specs.declared.record.Size.TheVariants.{Small, Large}
+use Rattle.accounts.specs.declared.record.State.TheVariants.{Closed}
+use Rattle.crediting.specs.Worths.{cents}
+use Rattle.ledger.specs.declared.call.Done.{Done}
+use Rattle.ledger.specs.declared.call.Done.TheVariants.{Opened, FinallyBilled, Disbursed, Lapsed}
+use Rattle.ledger.specs.declared.call.Refusal.{Refusal}
+use Rattle.ledger.specs.declared.phase.Phase.TheVariants.{Between}
+use Rattle.ledger.specs.Lines.{enrolled, judge_lines}
+use Rattle.ledger.specs.Refusals.{number, place}
+use Rattle.ledger.specs.States.{State, Outcome}
+use Rattle.ledger.specs.Steps.{bill, disburse, final_bill, judge_open, lapse, opened, reading}
+use Rattle.cases.specs.Cases.{account, in_period, line}
+
+-- the number of a refusal and the place that it tells; nothing where there is none
+pub record Refused : Type 0 where
+  pub by : ℕ
+  pub at : ℕ
+
+abbrev pub why : {X : Type 0} → Result X Refusal → Option Refused
+why (Ok done) = None
+why (Err refusal) = Some (record { by = number refusal; at = place refusal })
+
+abbrev pub refused : ℕ → ℕ → Option Refused
+refused n p = Some (record { by = n; at = p })
+
+-- between periods, with so many of them closed, units in the bank and units read
+abbrev pub between : ℕ → ℕ → ℕ → List Record → State
+between closed bank read rs =
+    record {
+      smallest = 1;
+      farm = false;
+      phase = Between;
+      closed = closed;
+      bank = bank;
+      read = read;
+      room = 4;
+      records = rs;
+    }
+
+abbrev pub gone : ℕ → Record
+gone number = record (account number 0 1000 0) { state = Closed; last = 1 }
+
+abbrev pub paid : ℕ → Record
+paid number = record (account number 0 1000 50) { last = 1 }
+
+-- lines of a plain project whose book has room for one more account than account 1, which is closed
+abbrev pub lines : ℕ → List Line → Option Refused
+lines smallest ls = why (judge_lines smallest false 2 (gone 1 ∷ []) ls)
+
+-- a request with a line out of range, one of an account that stands ahead, one of a closed account, and too much percentage
+abbrev pub several : Result ℕ Refusal
+several = judge_lines 1 false 2 (gone 1 ∷ []) (line 2 Small 1000 ∷ line 2 Small 1000 ∷ line 0 Small 1000 ∷ line 1 Large 60000 ∷ line 3 Small 60000 ∷ [])
+
+-- Each request has the fault of its check and of every later one that the same lines can have.
+pub record RequestOrder : Type 0 where
+  pub count : lines 10 (line 2 Small 0 ∷ line 2 Small 0 ∷ line 1 Large 60000 ∷ line 3 Small 60000 ∷ []) ≡ refused 12 0
+  pub ranges : why several ≡ refused 13 2
+  pub repeated : lines 1 (line 1 Small 1000 ∷ line 2 Small 1000 ∷ line 2 Large 60000 ∷ line 3 Small 60000 ∷ []) ≡ refused 14 2
+  pub closed : lines 1 (line 2 Large 60000 ∷ line 1 Small 1000 ∷ line 3 Small 60000 ∷ []) ≡ refused 15 1
+  pub whole : lines 1 (line 2 Large 60000 ∷ line 3 Small 60000 ∷ []) ≡ refused 16 0
+  pub large : lines 1 (line 2 Large 40001 ∷ line 3 Small 1000 ∷ []) ≡ refused 17 0
+  pub room : lines 1 (line 2 Large 40000 ∷ line 3 Small 60000 ∷ []) ≡ refused 18 0
+  pub taken : lines 1 (line 2 Large 40000 ∷ []) ≡ None
+  -- with the farm mark large satellites may have all
+  pub farm : judge_lines 1 true 2 [] (line 2 Large 60000 ∷ line 3 Large 40000 ∷ []) ≡ Ok 2
+
+-- An accepted request takes the percentage of accounts without a line, and new accounts join last.
+pub record Enrolment : Type 0 where
+  pub records : enrolled (account 1 30000 500 7 ∷ account 2 20000 1000 9 ∷ []) (line 3 Small 1000 ∷ line 2 Small 25000 ∷ []) ≡ account 1 0 500 7 ∷ account 2 25000 1000 9 ∷ account 3 1000 1000 0 ∷ []
+
+-- Readings: the 1,200th period is the last; a reading of 10^10 units is the largest, and all together may be 10^12.
+pub record ReadingOrder : Type 0 where
+  pub last_period : (reading (between 1199 0 0 []) 10000000000).answer ≡ Ok (Opened 1200)
+  pub periods : why (reading (between 1200 0 1000000000000 []) 10000000001).answer ≡ refused 19 0
+  pub large : why (reading (between 1199 0 1000000000000 []) 10000000001).answer ≡ refused 20 0
+  pub together : why (reading (between 0 0 999999999999 (account 1 100001 0 0 ∷ [])) 2).answer ≡ refused 21 0
+  pub whole : (reading (between 0 0 999999999999 []) 1).answer ≡ Ok (Opened 1)
+  pub foreign : why (reading (between 0 0 0 (account 1 100001 0 0 ∷ [])) 2).answer ≡ refused 27 0
+
+-- a bill in the first period by the Value Stack, of a book with account 1 closed and account 2 billed already
+abbrev pub billing : ℕ → ℕ → Outcome
+billing number amount = bill cents (in_period (gone 1 ∷ paid 2 ∷ account 3 0 1000 10 ∷ []) 9999999999999 0) 9999999999999 0 number amount
+
+pub record BillOrder : Type 0 where
+  pub large : why (billing 4 1000000001).answer ≡ refused 23 0
+  pub missing : why (billing 4 1000000000).answer ≡ refused 24 0
+  pub closed : why (billing 1 1000000000).answer ≡ refused 24 0
+  pub billed : why (billing 2 1000000000).answer ≡ refused 25 0
+  pub foreign : why (billing 3 1000000000).answer ≡ refused 27 0
+  pub most : why (billing 3 1).answer ≡ None
+
+-- A final bill of 3,210 of an account that holds 5,000 cents: the units left are forfeited, and the account is closed.
+pub record FinalBill : Type 0 where
+  pub answers : (final_bill cents (in_period (account 1 30000 1000 5000 ∷ []) 0 0) 0 0 1 3210).answer ≡ Ok (FinallyBilled (record { applied = 3210; used = 3210; net = 321; fee = 2889 }) 1790)
+  pub leaves : (final_bill cents (in_period (account 1 30000 1000 5000 ∷ []) 0 0) 0 0 1 3210).state.records ≡ gone 1 ∷ []
+
+-- Units from a bank of 5: to an account that holds 50; none of a closed or missing account, nor 0, nor more than there are.
+abbrev pub disbursing : ℕ → ℕ → Outcome
+disbursing number units = disburse (between 1 5 0 (gone 1 ∷ paid 2 ∷ account 3 0 1000 1000000000000 ∷ [])) number units
+
+pub record DisburseOrder : Type 0 where
+  pub missing : why (disbursing 4 6).answer ≡ refused 24 0
+  pub closed : why (disbursing 1 0).answer ≡ refused 24 0
+  pub nothing : why (disbursing 3 0).answer ≡ refused 26 0
+  pub over : why (disbursing 3 6).answer ≡ refused 26 0
+  pub foreign : why (disbursing 3 1).answer ≡ refused 27 0
+  pub answers : (disbursing 2 5).answer ≡ Ok (Disbursed 0)
+  pub bank : (disbursing 2 5).state.bank ≡ 0
+  pub held : (disbursing 2 5).state.records ≡ gone 1 ∷ record (paid 2) { held = 55 } ∷ account 3 0 1000 1000000000000 ∷ []
+
+-- The whole bank lapses, at once and for good.
+pub record Lapse : Type 0 where
+  pub answers : (lapse (between 1 5 9 [])).answer ≡ Ok (Lapsed 5)
+  pub bank : (lapse (between 1 5 9 [])).state ≡ between 1 0 9 []
+
+-- A ledger is opened with 1 or 10 as the smallest number of lines, on an empty book.
+abbrev pub unopened : Option Refusal → Option Refused
+unopened None = None
+unopened (Some refusal) = refused (number refusal) (place refusal)
+
+pub record OpenOrder : Type 0 where
+  pub exempt : unopened (judge_open 1 0) ≡ None
+  pub ten : unopened (judge_open 10 0) ≡ None
+  pub smallest : unopened (judge_open 2 1) ≡ refused 9 0
+  pub empty : unopened (judge_open 10 1) ≡ refused 10 0
+
+pub record WorkedChecks : Type 0 where
+  pub opening : OpenOrder
+  pub requests : RequestOrder
+  pub enrolment : Enrolment
+  pub readings : ReadingOrder
+  pub bills : BillOrder
+  pub final_bill : FinalBill
+  pub disbursements : DisburseOrder
+  pub lapse : Lapse
