@@ -28,6 +28,7 @@ impl<'a> ImageBook<'a> {
         ensures count { result.count ≡ 0 }
         ensures room { room_of result ≡ started_room image.old }
         ensures loan { loan_of result ≡ image.entry.ghost_name }
+        ensures lent { (contents_of result).loans ≡ image.entry.ghost_name ∷ [] }
         ensures sound { Sound result }
     {
         let room = begin(image);
@@ -45,6 +46,7 @@ impl<'a> ImageBook<'a> {
         ensures count { result.count ≡ opened_count image.old }
         ensures room { room_of result ≡ opened_room image.old }
         ensures loan { loan_of result ≡ image.entry.ghost_name }
+        ensures lent { (contents_of result).loans ≡ image.entry.ghost_name ∷ [] }
         ensures sound { Sound result }
         ensures again { ComesBack image.old result.count (room_of result) }
     {

@@ -1,8 +1,9 @@
+pub mod Again
+pub mod Cells
 pub mod Cutting
 pub mod Gathering
+pub mod Keeping
 pub mod Listing
-pub mod Saying
-pub mod Again
-pub mod Rewriting
 pub mod Packing
-pub mod Cells
+pub mod Rewriting
+pub mod Saying

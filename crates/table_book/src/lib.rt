@@ -26,6 +26,7 @@ impl<'a> TableBook<'a> {
         ensures empty { count_of result ≡ 0 }
         ensures table { table_of result ≡ table.old }
         ensures loan { loan_of result ≡ table.entry.ghost_name }
+        ensures lent { (contents_of result).loans ≡ table.entry.ghost_name ∷ [] }
         ensures sound { Sound result }
     {
         TableBook { table, count: 0 }

@@ -1,0 +1,64 @@
+#!/usr/bin/env python3
+"""Writes the tables of docs/PLANTED-BUGS.md behind its mark, from the lists of bugs and from what a run of them printed.
+
+    python3 tools/tabulate_bugs.py
+
+For each bug of tools/planted/*.txt its last line in tools/planted/run.log counts. A bug that has none was not run.
+"""
+import glob
+import os
+import re
+
+MARK = "<!-- what follows is written by tools/tabulate_bugs.py -->"
+KINDS = ["a contract", "a proof", "what rests on it", "a program's output", "a test", "nothing", "not run"]
+
+
+def kind(name, said):
+    """By what a bug is refused: the words of the page for what a run said."""
+    if not said or said.startswith("no verdict") or said == "LEFT":
+        return "not run"
+    if not said.startswith("refused by"):
+        return "nothing"
+    what, crate = re.match(r"refused by (?:a |the )?(\w+) of (\w+)", said).groups()
+    if what in ("output", "status"):
+        return "a program's output"
+    if what == "tests":
+        return "a test"
+    if crate != name:
+        return "what rests on it"
+    return f"a {what}"
+
+
+def main():
+    root = os.path.dirname(os.path.dirname(os.path.abspath(__file__)))
+    with open(f"{root}/tools/planted/run.log", encoding="utf-8") as log:
+        told = {tuple(parts[:2]): parts[2] for parts in (line.rstrip("\n").split(" | ") for line in log) if len(parts) > 2}
+    sums, tables, rows = [0] * len(KINDS), [], []
+    for path in sorted(glob.glob(f"{root}/tools/planted/*.txt")):
+        name = os.path.basename(path)[:-4]
+        counts, lines = [0] * len(KINDS), []
+        for block in re.split(r"\n\s*\n", open(path, encoding="utf-8").read()):
+            fields = dict(line.split(": ", 1) for line in block.split("\n") if line)
+            if not fields:
+                continue
+            file = fields["file"]
+            said = told.get((fields["bug"], file), "")
+            by = kind(file.split("/")[1], said)
+            counts[KINDS.index(by)] += 1
+            more = re.sub(r"refused by .* of ", "", said) if by in ("what rests on it", "a program's output", "a test") else ""
+            bug = fields["bug"].replace("|", "\\|")
+            lines.append(f"| {bug} | `{file.split('/', 1)[1]}` | {by}{f' (`{more}`)' if more else ''} |")
+        rows.append(f"| `{name}` | {sum(counts)} | " + " | ".join(map(str, counts)) + " |")
+        sums = [a + b for a, b in zip(sums, counts)]
+        tables += [f"### `{name}`", "", "| what was planted | where | refused by |", "| --- | --- | --- |", *lines, ""]
+    rows.append(f"| all | {sum(sums)} | " + " | ".join(map(str, sums)) + " |")
+    heads = ["| list | planted | " + " | ".join(KINDS) + " |", "| --- |" + " --- |" * (len(KINDS) + 1)]
+    page = f"{root}/docs/PLANTED-BUGS.md"
+    with open(page, encoding="utf-8") as file:
+        prose = file.read().split(MARK)[0]
+    with open(page, "w", encoding="utf-8") as file:
+        file.write("\n".join([prose + MARK, "", "## In numbers", "", *heads, *rows, "", "## Each bug", "", *tables]))
+
+
+if __name__ == "__main__":
+    main()
