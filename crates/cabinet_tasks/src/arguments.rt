@@ -21,7 +21,11 @@ pub fn run(rt: &HostRuntime) -> anyhow::Result<ExitCode> {
 }
 
 // A journal that the words do not name stands on `input`.
-pub fn perform<I: Read + Drop>(rt: &HostRuntime, input: I, words: &[&str]) -> anyhow::Result<Ending> {
+pub fn perform<I: Read + Drop>(
+    rt: &HostRuntime,
+    input: I,
+    words: &[&str],
+) -> anyhow::Result<Ending> {
     match *words {
         [] => post_input(rt, &Log, input),
         ["--help"] => {

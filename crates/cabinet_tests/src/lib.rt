@@ -103,7 +103,8 @@ mod tests {
             desk.now.set(Duration::from_millis(100_000 + milliseconds));
             progress.tell(count, "lines are read")?;
         }
-        let told = "cabinet: 3 lines are read\ncabinet: 5 lines are read\ncabinet: 7 lines are read\ncabinet: 9 lines are read\n";
+        let told =
+            "cabinet: 3 lines are read\ncabinet: 5 lines are read\ncabinet: 7 lines are read\ncabinet: 9 lines are read\n";
         assert_eq!(rt; desk.told().as_slice(), told.as_bytes());
         Ok(())
     }

@@ -30,7 +30,10 @@ where
     } = figures;
     let worth = Dollars::from(u128::from(worth)).to_string(heap)?;
     let applied = Dollars::from(u128::from(applied)).to_string(heap)?;
-    writeln!(out, "{name:<11} {units:>14} {worth:>14} {applied:>14} {used:>14} {left:>14}")?;
+    writeln!(
+        out,
+        "{name:<11} {units:>14} {worth:>14} {applied:>14} {used:>14} {left:>14}"
+    )?;
     Ok(())
 }
 
@@ -44,7 +47,10 @@ fn table<M: CreditMethod, W: Write>(
 ) -> anyhow::Result<()> {
     let mut postings: Vec<Posting> = Vec::new(heap);
     let mark = char::from(M::MARK);
-    writeln!(out, "{mark}: units are {unit}; worth and applied credit in dollars")?;
+    writeln!(
+        out,
+        "{mark}: units are {unit}; worth and applied credit in dollars"
+    )?;
     writeln!(
         out,
         "{:<11} {:>14} {:>14} {:>14} {:>14} {:>14}",

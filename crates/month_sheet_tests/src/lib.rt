@@ -8,12 +8,7 @@ mod tests {
     use std::process::Abort;
 
     // How a month ends, and what is printed of it.
-    fn refuses(
-        rt: &impl Abort,
-        month: &str,
-        why: &str,
-        heap: Global,
-    ) -> anyhow::Result<()> {
+    fn refuses(rt: &impl Abort, month: &str, why: &str, heap: Global) -> anyhow::Result<()> {
         let mut out: Vec<u8> = Vec::new(heap);
         match post_month(month.as_bytes(), &mut out, heap) {
             Ok(()) => assert!(rt; false, "{month}"),
@@ -63,7 +58,8 @@ mod tests {
     // are worth two cents there. At 500,000 a kilowatt-hour is worth fifty cents, so that three pay a bill of 101 cents.
     #[test]
     fn tables(rt: HostRuntime) -> anyhow::Result<()> {
-        let month = "R 1 7\nR 1 500000\nK 20010000001 1 4 101\nC 5 16 70 30\nK 20010000002 2 20000 900\n";
+        let month =
+            "R 1 7\nR 1 500000\nK 20010000001 1 4 101\nC 5 16 70 30\nK 20010000002 2 20000 900\n";
         let wanted = "K: units are kilowatt-hours; worth and applied credit in dollars\n\
             account              units          worth        applied           used           left\n\
             20010000001              4           2.00           1.01              3              1\n\
