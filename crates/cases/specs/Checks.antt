@@ -1,18 +1,22 @@
 -- Calls at the edges of their ranges, and calls with more than one fault, of which the first check that fails is told.
-use Rattle.std.specs.Prelude.{◌≡◌, ℕ, true, false, List, [], ◌∷◌, Some, None, Ok, Err, Option, Result}
+use Rattle.std.specs.Prelude.{◌≡◌, ℕ, true, false, List, [], ◌∷◌, Some, None, Ok, Err, Option, Result, Vec}
+use Rattle.std.specs.declared.alloc.Global.{Global}
+use Rattle.accounts.specs.declared.record.Kind.TheVariants.{Member, Anchor}
 use Rattle.accounts.specs.declared.record.Line.{Line}
 use Rattle.accounts.specs.declared.record.Record.{Record}
 use Rattle.accounts.specs.declared.record.Size.TheVariants.{Small, Large}
 use Rattle.accounts.specs.declared.record.State.TheVariants.{Closed}
 use Rattle.crediting.specs.Worths.{cents}
-use Rattle.ledger.specs.declared.call.Done.{Done}
+use Rattle.ledger.specs.declared.call.Call.{Call}
+use Rattle.ledger.specs.declared.call.Call.TheVariants.{Enrol, Reading, Bill, FinalBill as final, Disburse, Lapse as lapsing, Close}
 use Rattle.ledger.specs.declared.call.Done.TheVariants.{Opened, FinallyBilled, Disbursed, Lapsed}
 use Rattle.ledger.specs.declared.call.Refusal.{Refusal}
-use Rattle.ledger.specs.declared.phase.Phase.TheVariants.{Between}
+use Rattle.ledger.specs.declared.phase.Phase.TheVariants.{Between, InPeriod}
 use Rattle.ledger.specs.Lines.{enrolled, judge_lines}
 use Rattle.ledger.specs.Refusals.{number, place}
+use Rattle.ledger.specs.Rules.{counted, net_credit, subscription_fee}
 use Rattle.ledger.specs.States.{State, Outcome}
-use Rattle.ledger.specs.Steps.{bill, disburse, final_bill, judge_open, lapse, opened, reading}
+use Rattle.ledger.specs.Steps.{bill, close, disburse, final_bill, judge_open, lapse, reading, step}
 use Rattle.cases.specs.Cases.{account, in_period, line}
 
 -- the number of a refusal and the place that it tells; nothing where there is none
@@ -128,8 +132,41 @@ pub record OpenOrder : Type 0 where
   pub smallest : unopened (judge_open 2 1) ≡ refused 9 0
   pub empty : unopened (judge_open 10 1) ≡ refused 10 0
 
+-- An excluded anchor keeps its whole credit, pays no fee, and counts for no utility fee; a member's credit counts.
+pub record Kinds : Type 0 where
+  pub anchor_keeps : net_credit Anchor 1000 7454 ≡ 7454
+  pub anchor_fee : subscription_fee Anchor 1000 7454 ≡ 0
+  pub anchor_counts : counted Anchor 7454 ≡ 0
+  pub member_counts : counted Member 7454 ≡ 7454
+
+-- What a bill of 3,210 by the Value Stack leaves of an account that holds 5,000 cents, in a period with credits and fees.
+abbrev pub later : Record → State
+later r = (bill cents (in_period (r ∷ []) 100 60) 100 60 1 3210).state
+
+pub record BillLeaves : Type 0 where
+  pub member : later (account 1 30000 1000 5000) ≡ in_period (record (account 1 30000 1000 1790) { last = 1 } ∷ []) 3310 2949
+  pub anchor : later (record (account 1 30000 1000 5000) { kind = Anchor }) ≡ in_period (record (account 1 30000 1000 1790) { kind = Anchor; last = 1 } ∷ []) 100 60
+
+-- A close ends the period, and leaves bank, readings and records as they are.
+pub record CloseLeaves : Type 0 where
+  pub ended : (close (record (between 7 5 9 (paid 1 ∷ [])) { phase = InPeriod 100 60 }) 100 60).state ≡ between 8 5 9 (paid 1 ∷ [])
+
+-- Between periods there are no bills and no close; in a period there is nothing else.
+abbrev pub asked : State → Call ℕ → Option Refused
+asked s call = why (step (λ m. cents) s call).answer
+
+pub record PhaseOrder : Type 0 where
+  pub bill_between : asked (between 0 0 0 []) (Bill 0 1 1000000001) ≡ refused 22 0
+  pub final_between : asked (between 0 0 0 []) (final 0 1 1000000001) ≡ refused 22 0
+  pub close_between : asked (between 0 0 0 []) Close ≡ refused 22 0
+  pub enrol_in : (lines : Vec Line Global) → asked (in_period [] 0 0) (Enrol lines) ≡ refused 11 0
+  pub reading_in : asked (in_period [] 0 0) (Reading 10000000001) ≡ refused 11 0
+  pub disburse_in : asked (in_period [] 0 0) (Disburse 1 0) ≡ refused 11 0
+  pub lapse_in : asked (in_period [] 0 0) lapsing ≡ refused 11 0
+
 pub record WorkedChecks : Type 0 where
   pub opening : OpenOrder
+  pub phases : PhaseOrder
   pub requests : RequestOrder
   pub enrolment : Enrolment
   pub readings : ReadingOrder
@@ -137,3 +174,6 @@ pub record WorkedChecks : Type 0 where
   pub final_bill : FinalBill
   pub disbursements : DisburseOrder
   pub lapse : Lapse
+  pub kinds : Kinds
+  pub bill_leaves : BillLeaves
+  pub close_leaves : CloseLeaves
