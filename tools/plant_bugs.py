@@ -1,7 +1,7 @@
 #!/usr/bin/env python3
 """Plants bugs, one at a time, in a copy of the repository, and reports which are refused.
 
-    python3 tools/plant_bugs.py [LIST ..] [--only TEXT] [--copy FOLDER] [--skip LOG] [--near] [--jobs N]
+    python3 tools/plant_bugs.py [LIST ..] [--only TEXT] [--copy FOLDER] [--skip LOG] [--near] [--look NAMES] [--jobs N]
 
 LIST is a file of bugs (without one: every list in tools/planted/). A bug is four lines, and a blank line follows it:
 
@@ -10,12 +10,15 @@ LIST is a file of bugs (without one: every list in tools/planted/). A bug is fou
     old: TEXT that stands once in the file
     new: TEXT in its place
 
-`\\n` in a text stands for a line's end. A bug in specs/ is in the same form. For each bug `rt check` is run in the crate.
-Where that still proves it, each program above it is built with `rt run`, and what it prints is compared with its file
-stdout; then the crates that rest on it are checked, with `rt test` where they are tests. What is printed for each bug: the
-verdict (by what it is refused, or PROVED), and the first complaint. A text that cannot be read or compiled has no verdict.
-With --near nothing but the bug's own crate is looked at, and a bug that is proved there is LEFT for a run without it.
-The status is 1 where a bug is caught by nothing.
+`\\n` in a text stands for a line's end. A bug in specs/ is in the same form. One that stands in several places, as where a
+definition and the code are wrong in the same way, has the three lines once for each; it is of the first file's crate.
+
+For each bug `rt check` is run in the crate. Where that still proves it, each program above it is built with `rt run`, and
+what it prints is compared with its file stdout; then the crates that rest on it are checked, with `rt test` where they are
+tests. What is printed for each bug: the verdict (by what it is refused, or PROVED), and the first complaint. A text that
+cannot be read or compiled has no verdict. With --near nothing but the bug's own crate is looked at, and a bug that is proved
+there is LEFT for a run without it; with --look these crates are looked at behind it, in their order, and no others. The
+status is 1 where a bug is caught by nothing.
 
 The copy is made once in FOLDER (/tmp/planted without it), with what `rt check` kept in each out/, so that only what a bug
 touches is proved again.
@@ -39,8 +42,8 @@ def bugs(path):
         lines = [line for line in block.split("\n") if line and not line.startswith("--")]
         if not lines:
             continue
-        fields = dict(line.split(": ", 1) for line in lines)
-        yield {key: value.replace("\\n", "\n") for key, value in fields.items()}
+        parts = [line.split(": ", 1)[1].replace("\\n", "\n") for line in lines]
+        yield parts[0], [tuple(parts[i : i + 3]) for i in range(1, len(parts), 3)]
 
 
 def crates(root):
@@ -111,15 +114,14 @@ def prints(folder):
     return "", ""
 
 
-def verdict(root, deps, bug, given):
-    crate = bug["file"].split("/")[1]
+def verdict(root, deps, crate, given):
     jobs = ["--jobs", given.jobs] if given.jobs else []
     said, place = check(f"{root}/crates/{crate}", jobs)
     if said:
         return said, place
     if given.near:
         return "LEFT", ""
-    uppers = above(deps, crate)
+    uppers = [name for name in given.look.split(",") if name] or above(deps, crate)
     programs = [name for name in [crate, *uppers] if os.path.exists(f"{root}/crates/{name}/src/main.rt")]
 
     def printed(name):
@@ -127,12 +129,16 @@ def verdict(root, deps, bug, given):
         return os.path.getsize(file) if os.path.exists(file) else 0
 
     # the ones that print most are looked at first, since they find most
-    for name in sorted(programs, key=printed, reverse=True):
+    for name in [] if given.look else sorted(programs, key=printed, reverse=True):
         said, place = prints(f"{root}/crates/{name}")
         if said:
             return said, place
     for name in uppers:
-        if name in programs or crate not in deps[name]:
+        if given.look and name in programs:
+            said, place = prints(f"{root}/crates/{name}")
+            if said:
+                return said, place
+        if name in programs or not (given.look or crate in deps[name]):
             continue
         if name.endswith("_tests"):
             status, lines, errors = rt(f"{root}/crates/{name}", "test")
@@ -146,6 +152,12 @@ def verdict(root, deps, bug, given):
     return "PROVED", ""
 
 
+def write(root, texts):
+    for name, text in texts.items():
+        with open(f"{root}/{name}", "w", encoding="utf-8") as file:
+            file.write(text)
+
+
 def main():
     words = argparse.ArgumentParser(description=__doc__, formatter_class=argparse.RawDescriptionHelpFormatter)
     words.add_argument("lists", nargs="*", metavar="LIST", help="a file of bugs; without one every list in tools/planted/")
@@ -153,6 +165,7 @@ def main():
     words.add_argument("--copy", default="/tmp/planted", metavar="FOLDER", help="where the copy is, or is made")
     words.add_argument("--skip", metavar="LOG", help="a file of what a run printed: its bugs are passed over")
     words.add_argument("--near", action="store_true", help="check the bug's own crate alone")
+    words.add_argument("--look", default="", metavar="NAMES", help="look at these crates behind it, with commas between them")
     words.add_argument("--jobs", metavar="N", help="how many proofs are made side by side")
     given = words.parse_args()
     here = os.path.dirname(os.path.dirname(os.path.abspath(__file__)))
@@ -163,26 +176,29 @@ def main():
     told = {tuple(line.split(" | ")[:2]) for line in lines}
     caught = missed = 0
     for path in given.lists or sorted(glob.glob(f"{here}/tools/planted/*.txt")):
-        for bug in bugs(path):
-            if given.only not in bug["bug"] + bug["file"] or (bug["bug"], bug["file"]) in told:
+        for bug, changes in bugs(path):
+            first = changes[0][0]
+            if given.only not in bug + first or (bug, first) in told:
                 continue
-            target = f"{given.copy}/{bug['file']}"
-            text = open(target, encoding="utf-8").read()
-            if text.count(bug["old"]) != 1:
-                print(f"{bug['bug']} | {bug['file']} | the text stands {text.count(bug['old'])} times", flush=True)
+            texts, counts = {}, []
+            for file, old, new in changes:
+                text = texts.get(file) or open(f"{given.copy}/{file}", encoding="utf-8").read()
+                counts.append(text.count(old))
+                texts[file] = text.replace(old, new)
+            if counts != [1] * len(changes):
+                print(f"{bug} | {first} | the texts stand {counts} times", flush=True)
                 missed += 1
                 continue
-            with open(target, "w", encoding="utf-8") as file:
-                file.write(text.replace(bug["old"], bug["new"]))
+            were = {file: open(f"{given.copy}/{file}", encoding="utf-8").read() for file in texts}
             try:
-                said, place = verdict(given.copy, deps, bug, given)
+                write(given.copy, texts)
+                said, place = verdict(given.copy, deps, first.split("/")[1], given)
             finally:
-                with open(target, "w", encoding="utf-8") as file:
-                    file.write(text)
+                write(given.copy, were)
             is_caught = said.startswith("refused")
             caught += is_caught
             missed += not is_caught
-            print(f"{bug['bug']} | {bug['file']} | {said} | {place}", flush=True)
+            print(f"{bug} | {first} | {said} | {place}", flush=True)
     print(f"{caught} refused, {missed} not")
     return 1 if missed else 0
 

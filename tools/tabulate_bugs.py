@@ -38,16 +38,16 @@ def main():
         name = os.path.basename(path)[:-4]
         counts, lines = [0] * len(KINDS), []
         for block in re.split(r"\n\s*\n", open(path, encoding="utf-8").read()):
-            fields = dict(line.split(": ", 1) for line in block.split("\n") if line)
-            if not fields:
+            parts = [line.split(": ", 1)[1] for line in block.split("\n") if line]
+            if not parts:
                 continue
-            file = fields["file"]
-            said = told.get((fields["bug"], file), "")
+            bug, file = parts[:2]
+            said = told.get((bug, file), "")
             by = kind(file.split("/")[1], said)
             counts[KINDS.index(by)] += 1
             more = re.sub(r"refused by .* of ", "", said) if by in ("what rests on it", "a program's output", "a test") else ""
-            bug = fields["bug"].replace("|", "\\|")
-            lines.append(f"| {bug} | `{file.split('/', 1)[1]}` | {by}{f' (`{more}`)' if more else ''} |")
+            where = " and ".join(f"`{name.split('/', 1)[1]}`" for name in dict.fromkeys(parts[1::3]))
+            lines.append(f"| {bug.replace('|', chr(92) + '|')} | {where} | {by}{f' (`{more}`)' if more else ''} |")
         rows.append(f"| `{name}` | {sum(counts)} | " + " | ".join(map(str, counts)) + " |")
         sums = [a + b for a, b in zip(sums, counts)]
         tables += [f"### `{name}`", "", "| what was planted | where | refused by |", "| --- | --- | --- |", *lines, ""]

@@ -1,6 +1,7 @@
 pub mod Again
 pub mod Cells
 pub mod Cutting
+pub mod Examples
 pub mod Gathering
 pub mod Keeping
 pub mod Listing
