@@ -84,23 +84,23 @@ mod tests {
         ends(&rt, Desk::new(heap), Err(mistake), ExitCode::FAILURE, told)
     }
 
-    // Nothing within the first second, and one line in each later one in which there is something to tell.
+    // From 100 seconds on: nothing within the first second, and one line in each later one in which there is something to tell.
     #[test]
     fn progress(rt: HostRuntime) -> anyhow::Result<()> {
         let desk = Desk::new(rt.alloc());
         let mut progress = Progress::start(&desk)?;
-        for (milliseconds, count) in [
-            (0, 1),
-            (999, 2),
-            (1_000, 3),
-            (1_999, 4),
-            (2_000, 5),
-            (2_001, 6),
-            (5_500, 7),
-            (5_999, 8),
-            (6_000, 9),
+        for (now, count) in [
+            (100_000, 1),
+            (100_999, 2),
+            (101_000, 3),
+            (101_999, 4),
+            (102_000, 5),
+            (102_001, 6),
+            (105_500, 7),
+            (105_999, 8),
+            (106_000, 9),
         ] {
-            desk.now.set(Duration::from_millis(100_000 + milliseconds));
+            desk.now.set(Duration::from_millis(now));
             progress.tell(count, "lines are read")?;
         }
         let told =
