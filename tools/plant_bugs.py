@@ -1,7 +1,7 @@
 #!/usr/bin/env python3
 """Plants bugs, one at a time, in a copy of the repository, and reports which are refused.
 
-    python3 tools/plant_bugs.py [LIST ..] [--only TEXT] [--copy FOLDER] [--skip LOG] [--near] [--look NAMES] [--jobs N]
+    python3 tools/plant_bugs.py [LIST ..] [--only TEXT] [--copy FOLDER] [--skip LOG] [--near] [--look NAMES] [--try] [--jobs N]
 
 LIST is a file of bugs (without one: every list in tools/planted/). A bug is four lines, and a blank line follows it:
 
@@ -17,8 +17,9 @@ For each bug `rt check` is run in the crate. Where that still proves it, each pr
 what it prints is compared with its file stdout; then the crates that rest on it are checked, with `rt test` where they are
 tests. What is printed for each bug: the verdict (by what it is refused, or PROVED), and the first complaint. A text that
 cannot be read or compiled has no verdict. With --near nothing but the bug's own crate is looked at, and a bug that is proved
-there is LEFT for a run without it; with --look these crates are looked at behind it, in their order, and no others. The
-status is 1 where a bug is caught by nothing.
+there is LEFT for a run without it; with --look these crates are looked at behind it, in their order, and no others. With
+--try nothing is proved, and the programs and tests above are run by `rt try`: this is for crates whose contracts say nothing.
+The status is 1 where a bug is caught by nothing.
 
 The copy is made once in FOLDER (/tmp/planted without it), with what `rt check` kept in each out/, so that only what a bug
 touches is proved again.
@@ -94,29 +95,54 @@ def prints(folder):
     if f"rt: running out/{name}" not in "\n".join(errors):
         return f"refused by a proof of {name}", complaint(lines + errors)
 
-    def given(file):
-        return open(f"{folder}/{file}", "rb").read() if os.path.exists(f"{folder}/{file}") else b""
-
     with tempfile.TemporaryDirectory() as room:
         if os.path.isdir(f"{folder}/data"):
             shutil.copytree(f"{folder}/data", room, dirs_exist_ok=True)
-        words = [f"{folder}/out/{name}", *given("args").decode().splitlines()]
+        words = [f"{folder}/out/{name}", *of(folder, "args").decode().splitlines()]
         try:
-            done = subprocess.run(words, cwd=room, input=given("stdin"), capture_output=True, timeout=SECONDS)
+            done = subprocess.run(words, cwd=room, input=of(folder, "stdin"), capture_output=True, timeout=SECONDS)
         except subprocess.TimeoutExpired:
             return f"refused by the output of {name}", f"it had not ended after {SECONDS} seconds"
-    if done.returncode != int(given("status") or 0):
-        return f"refused by the status of {name}", f"{done.returncode}: {done.stderr.decode(errors='replace').strip()[-200:]}"
-    if done.stdout != given("stdout"):
-        got, wanted = done.stdout.split(b"\n"), given("stdout").split(b"\n")
-        at = next((i for i, line in enumerate(got) if wanted[i : i + 1] != [line]), len(got) - 1)
+    return compared(folder, done.returncode, done.stdout, done.stderr)
+
+
+def of(folder, file):
+    return open(f"{folder}/{file}", "rb").read() if os.path.exists(f"{folder}/{file}") else b""
+
+
+def compared(folder, status, printed, told):
+    """What a program does against its files status and stdout."""
+    name, wanted = os.path.basename(folder), of(folder, "stdout")
+    if status != int(of(folder, "status") or 0):
+        return f"refused by the status of {name}", f"{status}: {told.decode(errors='replace').strip()[-200:]}"
+    if printed != wanted:
+        got, lines = printed.split(b"\n"), wanted.split(b"\n")
+        at = next((i for i, line in enumerate(got) if lines[i : i + 1] != [line]), len(got) - 1)
         return f"refused by the output of {name}", f"line {at + 1}: {got[at].decode(errors='replace')[:160]}"
     return "", ""
 
 
+def tried(folder):
+    """Runs a program, or tests, as `rt try` does: with no proof."""
+    name, words = os.path.basename(folder), ["rt", "try"]
+    for at, _, files in os.walk(f"{folder}/data"):
+        inside = os.path.relpath(at, f"{folder}/data")
+        words += [word for file in files for word in ("--data", f"{os.path.normpath(f'{inside}/{file}')}={at}/{file}")]
+    words += ["--test"] if name.endswith("_tests") else ["--", *of(folder, "args").decode().splitlines()]
+    done = subprocess.run(words, cwd=folder, input=of(folder, "stdin"), capture_output=True)
+    told = done.stderr.decode(errors="replace")
+    ended = re.search(r"run=ended status=(\d+)", told + done.stdout.decode(errors="replace"))
+    if name.endswith("_tests"):
+        failed = [line for line in done.stdout.decode(errors="replace").split("\n") if "FAILED" in line]
+        return (f"refused by the tests of {name}", failed[0]) if failed else ("", "") if ended else (f"no verdict of {name}", told[:200])
+    if not ended and "error[" in told:
+        return f"no verdict of {name}", next(line for line in told.split("\n") if "error[" in line)[:200]
+    return compared(folder, int(ended[1]) if ended else -1, done.stdout, done.stderr)
+
+
 def verdict(root, deps, crate, given):
     jobs = ["--jobs", given.jobs] if given.jobs else []
-    said, place = check(f"{root}/crates/{crate}", jobs)
+    said, place = ("", "") if given.no_proof else check(f"{root}/crates/{crate}", jobs)
     if said:
         return said, place
     if given.near:
@@ -129,6 +155,12 @@ def verdict(root, deps, crate, given):
         return os.path.getsize(file) if os.path.exists(file) else 0
 
     # the ones that print most are looked at first, since they find most
+    if given.no_proof:
+        for name in [*sorted(programs, key=printed, reverse=True), *(name for name in uppers if name.endswith("_tests"))]:
+            said, place = tried(f"{root}/crates/{name}")
+            if said:
+                return said, place
+        return "PROVED", ""
     for name in [] if given.look else sorted(programs, key=printed, reverse=True):
         said, place = prints(f"{root}/crates/{name}")
         if said:
@@ -165,6 +197,7 @@ def main():
     words.add_argument("--copy", default="/tmp/planted", metavar="FOLDER", help="where the copy is, or is made")
     words.add_argument("--skip", metavar="LOG", help="a file of what a run printed: its bugs are passed over")
     words.add_argument("--near", action="store_true", help="check the bug's own crate alone")
+    words.add_argument("--try", dest="no_proof", action="store_true", help="run programs and tests, and prove nothing")
     words.add_argument("--look", default="", metavar="NAMES", help="look at these crates behind it, with commas between them")
     words.add_argument("--jobs", metavar="N", help="how many proofs are made side by side")
     given = words.parse_args()

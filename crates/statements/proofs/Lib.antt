@@ -1,10 +1,10 @@
 pub mod Again
 pub mod Cells
 pub mod Cutting
-pub mod Examples
 pub mod Gathering
 pub mod Keeping
 pub mod Listing
 pub mod Packing
+pub mod Readable
 pub mod Rewriting
 pub mod Saying
