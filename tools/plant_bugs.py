@@ -114,7 +114,7 @@ def compared(folder, status, printed, told):
     """What a program does against its files status and stdout."""
     name, wanted = os.path.basename(folder), of(folder, "stdout")
     if status != int(of(folder, "status") or 0):
-        return f"refused by the status of {name}", f"{status}: {told.decode(errors='replace').strip()[-200:]}"
+        return f"refused by the status of {name}", f"{status}: {told.decode(errors='replace').strip()[:200].replace(chr(10), ' / ')}"
     if printed != wanted:
         got, lines = printed.split(b"\n"), wanted.split(b"\n")
         at = next((i for i, line in enumerate(got) if lines[i : i + 1] != [line]), len(got) - 1)

@@ -55,7 +55,7 @@ fn main(rt: HostRuntime) -> anyhow::Result<ExitCode> {
         ask(&rt, &["--pack", text, "mistake.req"])?;
     }
     ask(&rt, &["--pack", "lines.txt", "nowhere/lines.req"])?;
-    for file in ["lines.req", "spaced.req", "mistake.req"] {
+    for file in ["lines.req", "spaced.req", "mistake.req", "torn.req"] {
         ask(&rt, &["--show", file])?;
     }
     for journal in [
