@@ -1,3 +1,2 @@
 pub mod Cases
 pub mod Checks
-pub mod History

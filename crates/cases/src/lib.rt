@@ -1,13 +1,9 @@
-// Postings, refusals and a history worked by hand, shown of the definitions that the ledger's calls are proved equal to.
+// Postings and refusals worked by hand, shown of the definitions that the ledger's calls are proved equal to.
 #![tactic(auto)]
 
-ghost use Rattle.std.specs.Prelude.{◌≡◌, Err, Vec};
-ghost use Rattle.std.specs.declared.alloc.Global.{Global};
-ghost use Rattle.accounts.specs.declared.record.Line.{Line};
+ghost use Rattle.std.specs.Prelude.{◌≡◌, Err};
 ghost use Rattle.cases.specs.Cases.{WorkedPostings, member, rated};
 ghost use Rattle.cases.specs.Checks.{WorkedChecks, several};
-ghost use Rattle.cases.specs.History.{WorkedHistory, worked};
-ghost use Rattle.journal.specs.Histories.{used_by};
 ghost use Rattle.ledger.specs.Steps.{posting};
 
 use ledger::call::{Posting, Refusal};
@@ -33,13 +29,4 @@ pub fn worked_checks() -> Refusal
     ensures value { Err result ≡ several }
 {
     Refusal::LineOutOfRange { place: 2 }
-}
-
-// The worked history says of each account what was found by hand. The answer is what the bills of one account used, its
-// final bill among them.
-pub fn worked_history() -> u64
-    ensures history { WorkedHistory }
-    ensures value { (first second : Vec Line Global) → result ≡ used_by 1 (worked first second) }
-{
-    150
 }

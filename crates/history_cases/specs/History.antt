@@ -1,13 +1,24 @@
 -- A history worked by hand: two accounts, two readings, a change of percentages, and a final bill.
 use Rattle.std.specs.Prelude.{◌≡◌, ℕ, List, [], ◌∷◌, vec_items, Vec, sum_by}
 use Rattle.std.specs.declared.alloc.Global.{Global}
+use Rattle.accounts.specs.declared.record.Kind.TheVariants.{Member}
 use Rattle.accounts.specs.declared.record.Line.{Line}
 use Rattle.accounts.specs.declared.record.Size.TheVariants.{Small}
 use Rattle.ledger.specs.declared.call.Posting.{Posting}
 use Rattle.ledger.specs.declared.call.Refusal.TheVariants.{NotInBank}
 use Rattle.ledger.specs.declared.call.Call.TheVariants.{Disburse}
 use Rattle.journal.specs.Histories.{History, enrolled, opened, billed, finally_billed, disbursed, lapsed, closed, declined, percentage_of, class_of, shares_of, disbursed_to, used_by, given, units_read, units_forfeited, of_bill, of_close}
-use Rattle.cases.specs.Cases.{line}
+
+abbrev pub line : (account percentage class : ℕ) → Line
+line account percentage class =
+    record {
+      account = account;
+      percentage = percentage;
+      savings = 1000;
+      class = class;
+      size = Small;
+      kind = Member;
+    }
 
 -- a posting by the Value Stack at a savings rate of 10 percent
 abbrev pub tenth : (applied net fee : ℕ) → Posting
@@ -49,10 +60,10 @@ pub record Told (h : History ℕ) : Type 0 where
   pub paid : sum_by (of_close (λ s. s.payment)) h ≡ 106
 
 abbrev pub first_lines : List Line
-first_lines = line 1 Small 25000 ∷ line 2 Small 50000 ∷ []
+first_lines = line 1 25000 1 ∷ line 2 50000 1 ∷ []
 
 abbrev pub second_lines : List Line
-second_lines = record (line 1 Small 10000) { class = 5 } ∷ []
+second_lines = line 1 10000 5 ∷ []
 
 -- It is so for any two requests that have these lines.
 abbrev pub WorkedHistory : Type 0
