@@ -80,7 +80,9 @@ def complaint(lines):
 def check(folder, jobs):
     """How a check of a crate ends: nothing where it is proved, else by what it is refused, and the first complaint."""
     status, lines, errors = rt(folder, "check", *jobs)
-    if status == 0 and lines[-1].startswith("logic=proved"):
+    # a note on edits that no longer fit may stand behind it
+    said = next((line for line in reversed(lines) if line.startswith("logic=")), "")
+    if status == 0 and said.startswith("logic=proved"):
         return "", ""
     place, name = complaint(lines + errors), os.path.basename(folder)
     if not any(line.startswith("logic=not-proved") for line in lines) or re.match(r"(src|specs)/\S+ error: (?!`)", place):
