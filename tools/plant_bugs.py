@@ -90,12 +90,19 @@ def check(folder, jobs):
     return f"refused by {'a proof' if place.startswith('proofs/') else 'a contract'} of {name}", place
 
 
+def unbuilt(name, lines, errors):
+    """Why a program or tests are not built: something that they rest on is not proved, or cannot be read."""
+    if any(line.startswith("logic=not-proved") for line in lines):
+        return f"refused by what {name} rests on", complaint(lines + errors)
+    return f"no verdict of {name}", next((line for line in lines + errors if "error" in line), "")[:200]
+
+
 def prints(folder):
     """Builds a program and runs it as the gate does, with its args and stdin, in a copy of its data/."""
     name = os.path.basename(folder)
     status, lines, errors = rt(folder, "run")
     if f"rt: running out/{name}" not in "\n".join(errors):
-        return f"refused by a proof of {name}", complaint(lines + errors)
+        return unbuilt(name, lines, errors)
 
     with tempfile.TemporaryDirectory() as room:
         if os.path.isdir(f"{folder}/data"):
@@ -131,15 +138,19 @@ def tried(folder):
         inside = os.path.relpath(at, f"{folder}/data")
         words += [word for file in files for word in ("--data", f"{os.path.normpath(f'{inside}/{file}')}={at}/{file}")]
     words += ["--test"] if name.endswith("_tests") else ["--", *of(folder, "args").decode().splitlines()]
-    done = subprocess.run(words, cwd=folder, input=of(folder, "stdin"), capture_output=True)
+    try:
+        done = subprocess.run(words, cwd=folder, input=of(folder, "stdin"), capture_output=True, timeout=10 * SECONDS)
+    except subprocess.TimeoutExpired:
+        return f"refused by the output of {name}", f"it had not ended after {10 * SECONDS} seconds"
     told = done.stderr.decode(errors="replace")
-    ended = re.search(r"run=ended status=(\d+)", told + done.stdout.decode(errors="replace"))
-    if name.endswith("_tests"):
-        failed = [line for line in done.stdout.decode(errors="replace").split("\n") if "FAILED" in line]
-        return (f"refused by the tests of {name}", failed[0]) if failed else ("", "") if ended else (f"no verdict of {name}", told[:200])
-    if not ended and "error[" in told:
-        return f"no verdict of {name}", next(line for line in told.split("\n") if "error[" in line)[:200]
-    return compared(folder, int(ended[1]) if ended else -1, done.stdout, done.stderr)
+    lines = (told + done.stdout.decode(errors="replace")).split("\n")
+    ended = re.search(r"run=ended status=(\d+)", "\n".join(lines))
+    failed = [line for line in lines if "FAILED" in line]
+    if name.endswith("_tests") and failed:
+        return f"refused by the tests of {name}", failed[0]
+    if not ended or name.endswith("_tests") and done.returncode:
+        return f"no verdict of {name}", next((line for line in lines if "error" in line), told)[:200]
+    return ("", "") if name.endswith("_tests") else compared(folder, int(ended[1]), done.stdout, done.stderr)
 
 
 def verdict(root, deps, crate, given):
@@ -162,7 +173,7 @@ def verdict(root, deps, crate, given):
             said, place = tried(f"{root}/crates/{name}")
             if said:
                 return said, place
-        return "PROVED", ""
+        return "RAN AS BEFORE", ""
     for name in [] if given.look else sorted(programs, key=printed, reverse=True):
         said, place = prints(f"{root}/crates/{name}")
         if said:
@@ -176,9 +187,11 @@ def verdict(root, deps, crate, given):
             continue
         if name.endswith("_tests"):
             status, lines, errors = rt(f"{root}/crates/{name}", "test")
+            failed = [line for line in lines + errors if "FAILED" in line]
+            if failed:
+                return f"refused by the tests of {name}", failed[0]
             if status:
-                failed = [line for line in lines + errors if "FAILED" in line]
-                return f"refused by the tests of {name}", (failed or [complaint(lines + errors)])[0]
+                return unbuilt(name, lines, errors)
         else:
             said, place = check(f"{root}/crates/{name}", jobs)
             if said:
@@ -203,12 +216,14 @@ def main():
     words.add_argument("--look", default="", metavar="NAMES", help="look at these crates behind it, with commas between them")
     words.add_argument("--jobs", metavar="N", help="how many proofs are made side by side")
     given = words.parse_args()
+    if given.near and given.no_proof:
+        words.error("--near proves one crate, and --try proves nothing")
     here = os.path.dirname(os.path.dirname(os.path.abspath(__file__)))
     if not os.path.exists(given.copy):
         shutil.copytree(here, given.copy, symlinks=True)
     deps = crates(given.copy)
-    lines = open(given.skip, encoding="utf-8") if given.skip else ()
-    told = {tuple(line.split(" | ")[:2]) for line in lines}
+    rows = [line.split(" | ") for line in open(given.skip, encoding="utf-8")] if given.skip else []
+    told = {tuple(row[:2]) for row in rows if len(row) > 2 and row[2].startswith(("refused", "PROVED", "RAN AS BEFORE"))}
     caught = missed = 0
     for path in given.lists or sorted(glob.glob(f"{here}/tools/planted/*.txt")):
         for bug, changes in bugs(path):

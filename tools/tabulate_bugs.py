@@ -9,24 +9,25 @@ import glob
 import os
 import re
 
+from plant_bugs import bugs
+
 MARK = "<!-- what follows is written by tools/tabulate_bugs.py -->"
 KINDS = ["a contract", "a proof", "what rests on it", "a program's output", "a test", "nothing", "not run"]
 
 
 def kind(name, said):
     """By what a bug is refused: the words of the page for what a run said."""
-    if not said or said.startswith("no verdict") or said == "LEFT":
-        return "not run"
-    if not said.startswith("refused by"):
+    if said.startswith(("PROVED", "RAN AS BEFORE")):
         return "nothing"
-    what, crate = re.match(r"refused by (?:a |the )?(\w+) of (\w+)", said).groups()
+    found = re.match(r"refused by (?:a |the )?(\w+) (?:of )?(\w+)", said)
+    if not found:
+        return "not run"
+    what, crate = found.groups()
     if what in ("output", "status"):
         return "a program's output"
     if what == "tests":
         return "a test"
-    if crate != name:
-        return "what rests on it"
-    return f"a {what}"
+    return f"a {what}" if crate == name else "what rests on it"
 
 
 def main():
@@ -37,16 +38,13 @@ def main():
     for path in sorted(glob.glob(f"{root}/tools/planted/*.txt")):
         name = os.path.basename(path)[:-4]
         counts, lines = [0] * len(KINDS), []
-        for block in re.split(r"\n\s*\n", open(path, encoding="utf-8").read()):
-            parts = [line.split(": ", 1)[1] for line in block.split("\n") if line]
-            if not parts:
-                continue
-            bug, file = parts[:2]
+        for bug, changes in bugs(path):
+            file = changes[0][0]
             said = told.get((bug, file), "")
             by = kind(file.split("/")[1], said)
             counts[KINDS.index(by)] += 1
             more = re.sub(r"refused by .* of ", "", said) if by in ("what rests on it", "a program's output", "a test") else ""
-            where = " and ".join(f"`{name.split('/', 1)[1]}`" for name in dict.fromkeys(parts[1::3]))
+            where = " and ".join(f"`{name.split('/', 1)[1]}`" for name in dict.fromkeys(change[0] for change in changes))
             lines.append(f"| {bug.replace('|', chr(92) + '|')} | {where} | {by}{f' (`{more}`)' if more else ''} |")
         rows.append(f"| `{name}` | {sum(counts)} | " + " | ".join(map(str, counts)) + " |")
         sums = [a + b for a, b in zip(sums, counts)]

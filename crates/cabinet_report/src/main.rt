@@ -1,11 +1,14 @@
 // Asks the cabinet for what the year's journal does not: packs and shows request files, prints the report of a quarter
-// and of a farm's project, and gives it texts, files, journals and options with a mistake.
+// and of a farm's project, hands it a journal and nothing as its input, and gives it texts, files, journals and options with a
+// mistake.
 #![tactic(auto)]
 
 use cabinet_tasks::arguments::{finish, perform};
 use cabinet_tasks::ending::Ending;
 use std::fs;
 use std::process::ExitCode;
+
+const NOTHING: &[u8] = &[];
 
 fn print_words(rt: &HostRuntime, words: &[&str]) -> anyhow::Result<()> {
     print!(rt; "$ cabinet")?;
@@ -25,15 +28,14 @@ fn print_end(rt: &HostRuntime, end: anyhow::Result<Ending>) -> anyhow::Result<()
     Ok(())
 }
 
-// Asks with nothing on standard input.
+// Asks with an empty input.
 fn ask(rt: &HostRuntime, words: &[&str]) -> anyhow::Result<()> {
     print_words(rt, words)?;
     println!(rt; "")?;
-    let nothing: &[u8] = &[];
-    print_end(rt, perform(rt, nothing, words))
+    print_end(rt, perform(rt, NOTHING, words))
 }
 
-// Asks with a journal on standard input.
+// Asks with a journal as its input.
 fn pipe(rt: &HostRuntime, journal: &str, words: &[&str]) -> anyhow::Result<()> {
     let text = fs::read(rt, journal)?;
     print_words(rt, words)?;
@@ -89,6 +91,5 @@ fn main(rt: HostRuntime) -> anyhow::Result<ExitCode> {
     ask(&rt, &["--print"])?;
     ask(&rt, &["--report", "quarter.journal", "short.journal"])?;
     ask(&rt, &["--help"])?;
-    let nothing: &[u8] = &[];
-    finish(&rt, perform(&rt, nothing, &["--show", "torn.req"]))
+    finish(&rt, perform(&rt, NOTHING, &["--show", "torn.req"]))
 }

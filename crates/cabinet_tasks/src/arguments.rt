@@ -12,7 +12,7 @@ use std::process::ExitCode;
 
 const EXPLAINED: &str = "cabinet --help explains";
 
-// Does what the words behind the program's name ask for.
+// The program: reads its words, performs them on standard input, and ends.
 pub fn run(rt: &HostRuntime) -> anyhow::Result<ExitCode> {
     let heap = rt.alloc();
     let args: Vec<String> = env::args(rt)?.skip(1).collect(heap)?;

@@ -59,7 +59,7 @@ mod tests {
         }
     }
 
-    // How a task ends, with its status and what is told of it.
+    // A task that ends so has this status, and this is told of it.
     fn ends(
         rt: &impl Abort,
         desk: Desk,
@@ -79,8 +79,8 @@ mod tests {
         let (done, refused) = (Ok(Ending::Done), Ok(Ending::Refused));
         ends(&rt, Desk::new(heap), done, ExitCode::SUCCESS, b"")?;
         ends(&rt, Desk::new(heap), refused, ExitCode::FAILURE, b"")?;
-        let mistake = anyhow!("journal line 3: a number is wanted");
-        let told = b"journal line 3: a number is wanted\n";
+        let mistake = anyhow!("journal line 3: expected an account, in digits");
+        let told = b"journal line 3: expected an account, in digits\n";
         ends(&rt, Desk::new(heap), Err(mistake), ExitCode::FAILURE, told)
     }
 

@@ -1,5 +1,6 @@
--- Calls at the edges of their ranges, and calls with more than one fault, of which the first check that fails is told.
-use Rattle.std.specs.Prelude.{◌≡◌, ℕ, true, false, List, [], ◌∷◌, Some, None, Ok, Err, Option, Result, Vec}
+-- Calls at the edges of their ranges; calls with more than one fault, of which the first check that fails is told; and what
+-- accepted calls leave.
+use Rattle.std.specs.Prelude.{◌≡◌, ℕ, true, false, List, [], ◌∷◌, replicate, Some, None, Ok, Err, Option, Result, Vec}
 use Rattle.std.specs.declared.alloc.Global.{Global}
 use Rattle.accounts.specs.declared.record.Kind.TheVariants.{Member, Anchor}
 use Rattle.accounts.specs.declared.record.Line.{Line}
@@ -55,7 +56,8 @@ paid number = record (account number 0 1000 50) { last = 1 }
 abbrev pub lines : ℕ → List Line → Option Refused
 lines smallest ls = why (judge_lines smallest false 2 (gone 1 ∷ []) ls)
 
--- a request with a line out of range, one of an account that stands ahead, one of a closed account, and too much percentage
+-- a request with a line out of range, one of an account that stands ahead, one of a closed account, too much percentage, too
+-- much of it of large size, and more new accounts than there is room for
 abbrev pub several : Result ℕ Refusal
 several = judge_lines 1 false 2 (gone 1 ∷ []) (line 2 Small 1000 ∷ line 2 Small 1000 ∷ line 0 Small 1000 ∷ line 1 Large 60000 ∷ line 3 Small 60000 ∷ [])
 
@@ -69,12 +71,40 @@ pub record RequestOrder : Type 0 where
   pub large : lines 1 (line 2 Large 40001 ∷ line 3 Small 1000 ∷ []) ≡ refused 17 0
   pub room : lines 1 (line 2 Large 40000 ∷ line 3 Small 60000 ∷ []) ≡ refused 18 0
   pub taken : lines 1 (line 2 Large 40000 ∷ []) ≡ None
+  -- the first such line is told
+  pub first_range : lines 1 (line 2 Small 1000 ∷ line 0 Small 1000 ∷ line 0 Small 1000 ∷ []) ≡ refused 13 1
+  pub first_repeated : lines 1 (line 2 Small 1000 ∷ line 3 Small 1000 ∷ line 3 Small 1000 ∷ line 2 Small 1000 ∷ []) ≡ refused 14 2
+  pub first_closed : why (judge_lines 1 false 4 (gone 1 ∷ gone 2 ∷ []) (line 3 Small 1000 ∷ line 2 Small 1000 ∷ line 1 Small 1000 ∷ [])) ≡ refused 15 1
   -- with the farm mark large satellites may have all
   pub farm : judge_lines 1 true 2 [] (line 2 Large 60000 ∷ line 3 Large 40000 ∷ []) ≡ Ok 2
 
--- An accepted request takes the percentage of accounts without a line, and new accounts join last.
+-- How many lines there may be: at least the project's smallest number, and at most 1,024, which are here all of one account.
+pub record LineCounts : Type 0 where
+  pub nine : lines 10 (replicate 9 (line 2 Small 1)) ≡ refused 12 0
+  pub ten : lines 10 (replicate 10 (line 2 Small 1)) ≡ refused 14 1
+  pub most : lines 1 (replicate 1024 (line 2 Small 1)) ≡ refused 14 1
+  pub past_most : lines 1 (replicate 1025 (line 2 Small 1)) ≡ refused 12 0
+
+-- The ranges of a line's numbers.
+abbrev pub alone : Line → Option Refused
+alone l = lines 1 (l ∷ [])
+
+pub record LineRanges : Type 0 where
+  pub largest : alone (record (line 99999999999 Small 100000) { savings = 9800; class = 16 }) ≡ None
+  pub least : alone (record (line 2 Small 1) { savings = 500; class = 1 }) ≡ None
+  pub no_account : alone (line 0 Small 1000) ≡ refused 13 0
+  pub account : alone (line 100000000000 Small 1000) ≡ refused 13 0
+  pub no_percentage : alone (line 2 Small 0) ≡ refused 13 0
+  pub percentage : alone (line 2 Small 100001) ≡ refused 13 0
+  pub low_savings : alone (record (line 2 Small 1000) { savings = 499 }) ≡ refused 13 0
+  pub savings : alone (record (line 2 Small 1000) { savings = 9801 }) ≡ refused 13 0
+  pub no_class : alone (record (line 2 Small 1000) { class = 0 }) ≡ refused 13 0
+  pub class : alone (record (line 2 Small 1000) { class = 17 }) ≡ refused 13 0
+
+-- An accepted request leaves no percentage to accounts without a line; those on one get its values and keep what they hold;
+-- new accounts join last, in the order of their lines.
 pub record Enrolment : Type 0 where
-  pub records : enrolled (account 1 30000 500 7 ∷ account 2 20000 1000 9 ∷ []) (line 3 Small 1000 ∷ line 2 Small 25000 ∷ []) ≡ account 1 0 500 7 ∷ account 2 25000 1000 9 ∷ account 3 1000 1000 0 ∷ []
+  pub records : enrolled (account 1 30000 500 7 ∷ record (account 2 20000 500 9) { class = 2; size = Large; kind = Anchor; last = 1 } ∷ []) (line 4 Small 2000 ∷ line 2 Small 25000 ∷ line 3 Small 1000 ∷ []) ≡ account 1 0 500 7 ∷ record (account 2 25000 1000 9) { last = 1 } ∷ account 4 2000 1000 0 ∷ account 3 1000 1000 0 ∷ []
 
 -- Readings: the 1,200th period is the last; a reading of 10^10 units is the largest, and all together may be 10^12.
 pub record ReadingOrder : Type 0 where
@@ -83,26 +113,33 @@ pub record ReadingOrder : Type 0 where
   pub large : why (reading (between 1199 0 1000000000000 []) 10000000001).answer ≡ refused 20 0
   pub together : why (reading (between 0 0 999999999999 (account 1 100001 0 0 ∷ [])) 2).answer ≡ refused 21 0
   pub whole : (reading (between 0 0 999999999999 []) 1).answer ≡ Ok (Opened 1)
+  -- the book of another ledger: percentages that pass the whole, or units that an account may not hold
   pub foreign : why (reading (between 0 0 0 (account 1 100001 0 0 ∷ [])) 2).answer ≡ refused 27 0
+  pub over : why (reading (between 0 0 0 (account 1 100000 1000 999999999999 ∷ [])) 2).answer ≡ refused 27 0
+  pub full : (reading (between 0 0 0 (account 1 100000 1000 999999999999 ∷ [])) 1).answer ≡ Ok (Opened 1)
 
--- a bill in the first period by the Value Stack, of a book with account 1 closed and account 2 billed already
-abbrev pub billing : ℕ → ℕ → Outcome
-billing number amount = bill cents (in_period (gone 1 ∷ paid 2 ∷ account 3 0 1000 10 ∷ []) 9999999999999 0) 9999999999999 0 number amount
+-- Bills and final bills in the first period by the Value Stack, of a book with account 1 closed and account 2 billed already;
+-- the members' credits of the period are one cent below what they may come to.
+abbrev pub Asked : Type 0
+Asked = (ℕ → ℕ → ℕ) → State → ℕ → ℕ → ℕ → ℕ → Outcome
 
-pub record BillOrder : Type 0 where
-  pub large : why (billing 4 1000000001).answer ≡ refused 23 0
-  pub missing : why (billing 4 1000000000).answer ≡ refused 24 0
-  pub closed : why (billing 1 1000000000).answer ≡ refused 24 0
-  pub billed : why (billing 2 1000000000).answer ≡ refused 25 0
-  pub foreign : why (billing 3 1000000000).answer ≡ refused 27 0
-  pub most : why (billing 3 1).answer ≡ None
+abbrev pub billing : Asked → ℕ → ℕ → Outcome
+billing call number amount = call cents (in_period (gone 1 ∷ paid 2 ∷ account 3 0 1000 10 ∷ []) 9999999999999 0) 9999999999999 0 number amount
+
+pub record BillOrder (call : Asked) : Type 0 where
+  pub large : why (billing call 4 1000000001).answer ≡ refused 23 0
+  pub missing : why (billing call 4 1000000000).answer ≡ refused 24 0
+  pub closed : why (billing call 1 1000000000).answer ≡ refused 24 0
+  pub billed : why (billing call 2 1000000000).answer ≡ refused 25 0
+  pub foreign : why (billing call 3 1000000000).answer ≡ refused 27 0
+  pub most : why (billing call 3 1).answer ≡ None
 
 -- A final bill of 3,210 of an account that holds 5,000 cents: the units left are forfeited, and the account is closed.
 pub record FinalBill : Type 0 where
   pub answers : (final_bill cents (in_period (account 1 30000 1000 5000 ∷ []) 0 0) 0 0 1 3210).answer ≡ Ok (FinallyBilled (record { applied = 3210; used = 3210; net = 321; fee = 2889 }) 1790)
-  pub leaves : (final_bill cents (in_period (account 1 30000 1000 5000 ∷ []) 0 0) 0 0 1 3210).state.records ≡ gone 1 ∷ []
+  pub leaves : (final_bill cents (in_period (account 1 30000 1000 5000 ∷ []) 0 0) 0 0 1 3210).state ≡ in_period (gone 1 ∷ []) 3210 2889
 
--- Units from a bank of 5: to an account that holds 50; none of a closed or missing account, nor 0, nor more than there are.
+-- Units from a bank of 5 to an account that holds 50; none to a closed or missing account, not 0, and no more than there are.
 abbrev pub disbursing : ℕ → ℕ → Outcome
 disbursing number units = disburse (between 1 5 0 (gone 1 ∷ paid 2 ∷ account 3 0 1000 1000000000000 ∷ [])) number units
 
@@ -112,14 +149,16 @@ pub record DisburseOrder : Type 0 where
   pub nothing : why (disbursing 3 0).answer ≡ refused 26 0
   pub over : why (disbursing 3 6).answer ≡ refused 26 0
   pub foreign : why (disbursing 3 1).answer ≡ refused 27 0
+  pub full : (disburse (between 1 5 0 (account 1 0 1000 999999999995 ∷ [])) 1 5).answer ≡ Ok (Disbursed 0)
   pub answers : (disbursing 2 5).answer ≡ Ok (Disbursed 0)
   pub bank : (disbursing 2 5).state.bank ≡ 0
   pub held : (disbursing 2 5).state.records ≡ gone 1 ∷ record (paid 2) { held = 55 } ∷ account 3 0 1000 1000000000000 ∷ []
 
--- The whole bank lapses, at once and for good.
+-- A lapse empties the bank, and changes nothing else; an empty bank may lapse too.
 pub record Lapse : Type 0 where
   pub answers : (lapse (between 1 5 9 [])).answer ≡ Ok (Lapsed 5)
-  pub bank : (lapse (between 1 5 9 [])).state ≡ between 1 0 9 []
+  pub leaves : (lapse (between 1 5 9 [])).state ≡ between 1 0 9 []
+  pub empty : (lapse (between 1 0 9 [])).answer ≡ Ok (Lapsed 0)
 
 -- A ledger is opened with 1 or 10 as the smallest number of lines, on an empty book.
 abbrev pub unopened : Option Refusal → Option Refused
@@ -151,7 +190,7 @@ pub record BillLeaves : Type 0 where
 pub record CloseLeaves : Type 0 where
   pub ended : (close (record (between 7 5 9 (paid 1 ∷ [])) { phase = InPeriod 100 60 }) 100 60).state ≡ between 8 5 9 (paid 1 ∷ [])
 
--- Between periods there are no bills and no close; in a period there is nothing else.
+-- Between periods there are no bills and no close; in a period there are no other calls.
 abbrev pub asked : State → Call ℕ → Option Refused
 asked s call = why (step (λ m. cents) s call).answer
 
@@ -168,9 +207,12 @@ pub record WorkedChecks : Type 0 where
   pub opening : OpenOrder
   pub phases : PhaseOrder
   pub requests : RequestOrder
+  pub line_counts : LineCounts
+  pub line_ranges : LineRanges
   pub enrolment : Enrolment
   pub readings : ReadingOrder
-  pub bills : BillOrder
+  pub bills : BillOrder bill
+  pub final_bills : BillOrder final_bill
   pub final_bill : FinalBill
   pub disbursements : DisburseOrder
   pub lapse : Lapse

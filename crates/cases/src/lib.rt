@@ -22,8 +22,8 @@ pub fn worked_postings() -> Posting
     }
 }
 
-// The worked calls are answered as by hand, at the edges of their ranges and where more than one check fails. The answer
-// is that to a request with several faults: a line out of range is told ahead of the others.
+// The worked calls are answered as by hand, at the edges of their ranges and where more than one check fails, and leave what
+// was found by hand. The answer is that to a request with several faults: a line out of range is told ahead of the others.
 pub fn worked_checks() -> Refusal
     ensures checks { WorkedChecks }
     ensures value { Err result ≡ several }

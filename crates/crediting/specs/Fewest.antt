@@ -1,4 +1,5 @@
--- The smallest number of units worth an amount: it is within the units held, and it is the only one that meets the rule.
+-- What follows of a lawful worth: it is told as no more than 10^14 cents; and the smallest number of units worth an amount is
+-- within the units held, and the only one that meets the rule.
 use Rattle.std.specs.Prelude.{◌≡◌, ℕ, zero, suc, ◌<◌, ◌≤◌, min, true, false, nat_le}
 use Rattle.std.proofs.Common.{arith, refl, sym, ◌∙◌, ap, ⊎_elim}
 use Rattle.std.proofs.Math.Nat.{min-le_left, min-le_right}

@@ -39,6 +39,6 @@ abbrev pub Told : List ℕ → Result (Unit {0}) RatesRefusal → Type 0
 Told rs (Ok _) = Fair rs
 Told rs (Err e) = (number e ≡ 8) × MatchBool (length rs == 16) (FirstUnfair rs (place e)) (place e ≡ 0)
 
--- It is told at one place and no other.
+-- A list of rates is refused at one place and no other.
 abbrev pub OnePlace : List ℕ → Type 0
 OnePlace rs = (e f : RatesRefusal) → Told rs (Err e) → Told rs (Err f) → place e ≡ place f

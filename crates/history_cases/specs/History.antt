@@ -1,11 +1,11 @@
--- A history worked by hand: two accounts, two readings, a change of percentages, and a final bill.
+-- A history worked by hand: two accounts, two readings, a change of percentages and of a class, and a final bill.
 use Rattle.std.specs.Prelude.{◌≡◌, ℕ, List, [], ◌∷◌, vec_items, Vec, sum_by}
 use Rattle.std.specs.declared.alloc.Global.{Global}
 use Rattle.accounts.specs.declared.record.Kind.TheVariants.{Member}
 use Rattle.accounts.specs.declared.record.Line.{Line}
 use Rattle.accounts.specs.declared.record.Size.TheVariants.{Small}
 use Rattle.ledger.specs.declared.call.Posting.{Posting}
-use Rattle.ledger.specs.declared.call.Refusal.TheVariants.{NotInBank}
+use Rattle.ledger.specs.declared.call.Refusal.TheVariants.{InPeriod}
 use Rattle.ledger.specs.declared.call.Call.TheVariants.{Disburse}
 use Rattle.journal.specs.Histories.{History, enrolled, opened, billed, finally_billed, disbursed, lapsed, closed, declined, percentage_of, class_of, shares_of, disbursed_to, used_by, given, units_read, units_forfeited, of_bill, of_close}
 
@@ -24,10 +24,11 @@ line account percentage class =
 abbrev pub tenth : (applied net fee : ℕ) → Posting
 tenth applied net fee = record { applied = applied; used = applied; net = net; fee = fee }
 
--- The newest first. Account 1 has 25 percent, then 10; account 2 has 50 percent, then no line. A method is a number here.
+-- The newest first. Account 1 has 25 percent and class 1, then 10 percent and class 5; account 2 has 50 percent, then no
+-- line. A method is a number here.
 abbrev pub worked : Vec Line Global → Vec Line Global → History ℕ
 worked first second =
-    declined (Disburse 1 9) NotInBank
+    declined (Disburse 1 9) InPeriod
     ∷ finally_billed 0 1 60 (tenth 60 6 54) 207
     ∷ opened 1000 2
     ∷ enrolled second 0

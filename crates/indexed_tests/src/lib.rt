@@ -60,8 +60,8 @@ mod tests {
         }
     }
 
-    // An index over a book of four accounts, a fifth of which joins through it, is asked for all five: answers how many of
-    // these searches went through the book. Each account is found at its place.
+    // A book of four accounts has an index. A fifth account joins through the index, and all five are sought and found at
+    // their places: answers how many of these searches went on to the book.
     fn searches(rt: &impl Abort, hints: &mut [Option<usize>]) -> usize {
         let mut table = [Record::default(); 5];
         let mut book = TableBook::new(&mut table);

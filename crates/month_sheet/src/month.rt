@@ -1,10 +1,11 @@
-// The lines of a month's file: a rate for each class, and the readings by their units.
+// Reads a month's file.
 use anyhow::bail;
 use cabinet_month::entry::{Entry, Mark, Reading, read_entry};
 use crediting::rates::RATES;
 use std::alloc::Global;
 use std::io::BufRead;
 
+// A rate for each class, and the readings by their units.
 #[derive(Drop)]
 pub struct Month {
     pub rates: [u32; RATES],

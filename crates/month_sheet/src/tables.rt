@@ -76,7 +76,7 @@ pub fn post_month<R: BufRead + Drop, W: Write>(
         kilowatt_hours,
     } = read_month(input, heap)?;
     let mut volumetric = Volumetric::new();
-    // what is told is fixed: a number and a place, with words of its own and not the refusal's
+    // the message has the refusal's number and place, as docs/FORMATS.md has it, and words that name the range
     if let Err(refusal) = volumetric.set_rates(&rates) {
         let number = refusal.number();
         let place = refusal.place();

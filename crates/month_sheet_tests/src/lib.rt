@@ -7,7 +7,7 @@ mod tests {
     use std::alloc::Global;
     use std::process::Abort;
 
-    // How a month ends, and what is printed of it.
+    // A month is not posted: this is told of it, and nothing is printed.
     fn refuses(rt: &impl Abort, month: &str, why: &str, heap: Global) -> anyhow::Result<()> {
         let mut out: Vec<u8> = Vec::new(heap);
         match post_month(month.as_bytes(), &mut out, heap) {

@@ -1,4 +1,4 @@
-// Tests of the report's lines at the largest numbers that a period can have.
+// Tests of the report's lines, each at numbers as large as a period can have.
 #![tactic(auto)]
 
 #[cfg(test)]
@@ -10,7 +10,7 @@ mod tests {
     use std::process::Abort;
     use std::test::Fail;
 
-    // 4,096 bills of the largest size are paid in full, three out of four cents for members.
+    // 4,096 bills of the largest size are paid in full, 3,000 of them members', who save 10 percent.
     #[test]
     fn payment(rt: HostRuntime) -> Result<(), Fail> {
         let settlement = Settlement {
@@ -35,15 +35,15 @@ mod tests {
         Ok(())
     }
 
-    // A satellite that has all that an account may hold, and one that has next to nothing.
+    // The largest reading makes one satellite's units the most that an account may hold; another has the smallest percentage.
     #[test]
     fn summary(rt: HostRuntime) -> Result<(), Fail> {
         let heap = rt.alloc();
         let most = Row {
             account: 99_999_999_999,
-            percentage: 100_000,
-            carried: 1_000_000_000_000,
-            share: 1_000_000_000_000,
+            percentage: 99_999,
+            carried: 990_000_100_000,
+            share: 9_999_900_000,
             applied: 1_000_000_000,
             left: 999_000_000_000,
             forfeited: 0,
@@ -52,9 +52,9 @@ mod tests {
             account: 1,
             percentage: 1,
             carried: 0,
-            share: 1,
+            share: 100_000,
             applied: 0,
-            left: 1,
+            left: 100_000,
             forfeited: 0,
         };
         let bank = Bank {
@@ -63,15 +63,15 @@ mod tests {
         };
         assert_eq!(rt;
             row_line(&most, heap)?.as_str(),
-            "99999999999   100.000  1000000000000  1000000000000  2000000000000    10000000.00   999000000000"
+            "99999999999    99.999   990000100000     9999900000  1000000000000    10000000.00   999000000000"
         );
         assert_eq!(rt;
             row_line(&least, heap)?.as_str(),
-            "          1     0.001              0              1              1           0.00              1"
+            "          1     0.001              0         100000         100000           0.00         100000"
         );
         assert_eq!(rt;
             satellites_line(&[most, least], heap)?.as_str(),
-            " Satellites   100.001  1000000000000  1000000000001  2000000000001    10000000.00   999000000001"
+            " Satellites   100.000   990000100000    10000000000  1000000100000    10000000.00   999000100000"
         );
         assert_eq!(rt;
             bank_line(bank, heap)?.as_str(),
