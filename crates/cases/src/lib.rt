@@ -10,6 +10,7 @@ use ledger::call::{Posting, Refusal};
 
 // The twelve cases hold. The answer is the posting of one of them: a member with a savings rate of 10 percent who holds
 // 681 kilowatt-hours at 10.946 cents is billed 200 dollars.
+#[tactic(auto, unfolding(crediting::specs::Credits::applied_credit, crediting::specs::Credits::units_used, crediting::specs::Credits::smallest))]
 pub fn worked_postings() -> Posting
     ensures cases { WorkedPostings }
     ensures value { result ≡ posting (rated 109460) (member 1000 681) 20000 }

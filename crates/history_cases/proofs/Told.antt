@@ -1,10 +1,9 @@
 -- The definitions come to the numbers of the worked history.
-use Rattle.std.proofs.Common.{◌≡◌, ℕ, ◌+◌, List, Vec, vec_items, refl, ap, ◌∙◌}
-use Rattle.std.specs.declared.alloc.Global.{Global}
+use Rattle.std.proofs.Common.{◌≡◌, ℕ, ◌+◌, List, vec_items, refl, ap, ◌∙◌}
 use Rattle.accounts.specs.declared.record.Line.{Line}
 use Rattle.ledger.specs.Rules.{share}
 use Rattle.journal.specs.Histories.{class_on, percentage_on, percentage_of, class_of, shares_of, disbursed_to, used_by}
-use Rattle.history_cases.specs.History.{WorkedHistory, first_lines, second_lines, worked}
+use Rattle.history_cases.specs.History.{WorkedHistory, first_lines, second_lines}
 
 pub history : WorkedHistory
 unfolding percentage_of class_of shares_of disbursed_to used_by
@@ -28,7 +27,3 @@ history first second e f =
       fees = refl;
       paid = refl;
     }
-
-pub used : (first second : Vec Line Global) → 150 ≡ used_by 1 (worked first second)
-unfolding used_by
-used first second = refl

@@ -1,6 +1,5 @@
-use Rattle.std.proofs.Common.{refl}
 use Rattle.cases.proofs.Checked as shown
 use Rattle.cases.proofs.worked_checks.Goals as goal
 
-pub returns : goal.returns
-returns c = record { checks = shown.checks; value = refl }
+pub returns-clause-checks : goal.returns-clause-checks
+returns-clause-checks c = shown.checks
