@@ -1,6 +1,7 @@
--- What an account book means: a list of records in order of adding.
+-- What an account book means: its records, one behind the other as they were added.
 use Rattle.std.specs.Prelude.{◌≡◌, ℕ, ◌+◌, ◌≤◌, Bool, true, false, cond, not, ◌&&◌, ◌||◌, List, [], ◌∷◌, ◌++◌, map, length, Some, None, Option, ◌==◌, nat_lt, slice_set}
 use Rattle.std.specs.List.{slice_get}
+use Rattle.base.specs.Limits.{most_records}
 use Rattle.accounts.specs.declared.record.Record.{Record}
 use Rattle.accounts.specs.Ranges.{in_range}
 
@@ -29,12 +30,12 @@ abbrev pub every : {X : Type 0} → (X → Bool) → List X → Bool
 every test [] = true
 every test (x ∷ xs) = test x && every test xs
 
--- a proper book: each record in range, no account twice, and no more records than its room, which is at most 4,096
+-- a proper book: each record in range, no account twice, and no more records than its room, which has a limit
 pub record Proper (rs : List Record) (room : ℕ) : Type 0 where
   pub ranged : every in_range rs ≡ true
   pub apart : distinct (accounts rs) ≡ true
   pub fits : length rs ≤ room
-  pub bounded : room ≤ 4096
+  pub bounded : room ≤ most_records
 
 -- adding is accepted where there is room, the record is in range and its account is new
 abbrev pub takes : List Record → ℕ → Record → Bool
@@ -62,10 +63,30 @@ pub record Contents : Type 0 where
   pub side : List ℕ
   pub loans : List ℕ
 
--- what a call leaves: a proper book still, with this list, and the room, the side list and the memory lent to it as before
-pub record Left (sound : Type 0) (now before : Contents) (then : List Record) : Type 0 where
-  pub stays : sound
-  pub list : now.records ≡ then
-  pub same_room : now.room ≡ before.room
-  pub same_side : now.side ≡ before.side
-  pub same_loans : now.loans ≡ before.loans
+-- whether a book with these contents takes one more record
+abbrev pub accepts : Contents → Record → Bool
+accepts shown r = takes shown.records shown.room r
+
+-- The interface's members: `sound` says that a book is proper, `contents` what it shows, and `same_rest old new` that the lent
+-- memory which holds no record is as it was.
+module _ {B : Type 0} (sound : B → Type 0) (contents : B → Contents) (same_rest : B → B → Type 0) where
+  -- what every call keeps: a proper book still, and its room, its side list, what is lent to it and the rest of that as before
+  pub record Kept (old new : B) : Type 0 where
+    pub stays : sound new
+    pub same_room : (contents new).room ≡ (contents old).room
+    pub same_side : (contents new).side ≡ (contents old).side
+    pub same_loans : (contents new).loans ≡ (contents old).loans
+    pub beyond : same_rest old new
+
+  -- a call that leaves these records, and keeps the rest
+  pub record Left (old new : B) (then : List Record) : Type 0 where
+    pub kept : Kept old new
+    pub list : (contents new).records ≡ then
+
+  -- of a proper book
+  abbrev pub Keeps : B → B → Type 0
+  Keeps old new = sound old → Kept old new
+
+  -- of a proper book, with the records that a function makes of those before
+  abbrev pub Leaves : B → B → (List Record → List Record) → Type 0
+  Leaves old new make = sound old → Left old new (make (contents old).records)

@@ -1,3 +1,4 @@
 pub mod Ranges
 pub mod Marks
 pub mod Books
+pub mod Records

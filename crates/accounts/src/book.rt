@@ -1,41 +1,49 @@
-// The interface of an account book: a list of records in order of adding, each in range, no account twice, in a fixed
-// room of at most 4,096.
+//! The interface of an account book.
 ghost use Rattle.std.specs.Prelude.{◌≡◌, length};
 ghost use Rattle.std.specs.List.{slice_get};
-ghost use Rattle.accounts.specs.Books.{Contents, accounts, find, takes, added, suits, replaced, Proper, Left};
+ghost use Rattle.accounts.specs.Books.{Contents, Leaves, Proper, accepts, accounts, added, find, replaced, suits};
 
 use crate::record::Record;
 
+/// Account records one behind the other as they were added: each in range, no account twice, in a fixed room of at
+/// most [`MOST_RECORDS`](base::limits::MOST_RECORDS). The rules are for a book that is proper in this sense, which each
+/// kind of book says of itself; a book as made is proper, and every call keeps it so.
 pub trait AccountBook {
-    // the records in order of adding, the room for them, and what no call here changes: numbers kept beside the
-    // records, and the memory that is lent to the book
+    // what the book shows: its records, its room, a side list, and the memory that is lent to it
     ghost contents: { Self → Contents };
 
-    // that it is a proper book, for each kind of book to say; the rules are for books of which it holds
+    // that it is a proper book
     ghost sound: { Self → Type 0 };
+
+    // that what is lent to the book and holds no record is as it was
+    ghost same_rest: { Self → Self → Type 0 };
 
     ghost proper: { (b : Self) → sound b → Proper (contents b).records (contents b).room };
 
-    // How many records there are.
+    ghost rest_stays: { (b : Self) → same_rest b b };
+
+    ghost rest_follows: { (a b c : Self) → same_rest a b → same_rest b c → same_rest a c };
+
+    /// How many records there are.
     fn count(&self) -> usize
         ensures { sound self.now → result ≡ length (contents self.now).records };
 
-    // How many records there is room for.
+    /// How many records there is room for.
     fn capacity(&self) -> usize
         ensures { sound self.now → result ≡ (contents self.now).room };
 
-    // The record at a place, or nothing past the end.
+    /// The record at a place, counted from 0; none past the last.
     fn get(&self, place: usize) -> Option<Record>
         ensures { sound self.now → result ≡ slice_get (contents self.now).records place };
 
-    // The place of an account, or nothing where the book lacks it.
+    /// The place of an account; none where the book lacks it.
     fn search(&self, account: u64) -> Option<usize>
         ensures { sound self.now → result ≡ find account (accounts (contents self.now).records) };
 
-    // Whether a record may be put last: the book has room, the record is in range, and its account is new.
+    /// Whether `add` would take a record: there is room, it is in range, and its account is new.
     #[tactic(auto, using(crate::proofs::Finding::found_present))]
     fn takes(&self, new: &Record) -> bool
-        ensures { sound self.now → result ≡ takes (contents self.now).records (contents self.now).room new.now }
+        ensures { sound self.now → result ≡ accepts (contents self.now) new.now }
     {
         if self.count() >= self.capacity() {
             return false;
@@ -46,7 +54,7 @@ pub trait AccountBook {
         self.search(new.account).is_none()
     }
 
-    // Whether a record may be put at a place: it is in range, and the place has its account already.
+    /// Whether `replace` would put a record at a place: it is in range, and the place has its account already.
     fn suits(&self, place: usize, new: &Record) -> bool
         ensures { sound self.now → result ≡ suits (contents self.now).records place new.now }
     {
@@ -56,13 +64,15 @@ pub trait AccountBook {
                 .is_some_and(|old| old.account == new.account)
     }
 
-    // Puts a record last; false where the book is full, the record is out of range or the account is present.
+    /// Puts a record behind the last. False, and nothing is changed, where there is no room, the record is out of range
+    /// or the book has its account.
     fn add(&mut self, new: Record) -> bool
-        ensures answer { sound self.old → result ≡ takes (contents self.old).records (contents self.old).room new }
-        ensures after { sound self.old → Left (sound self.new) (contents self.new) (contents self.old) (added result (contents self.old).records new) };
+        ensures answer { sound self.old → result ≡ accepts (contents self.old) new }
+        ensures after { Leaves sound contents same_rest self.old self.new (λ rs. added result rs new) };
 
-    // Puts a record at a place; false past the end, where the record is out of range or where the account differs.
+    /// Puts a record at a place in the stead of another of its account. False, and nothing is changed, where the place
+    /// is past the last, the record is out of range, or the place has another account.
     fn replace(&mut self, place: usize, new: Record) -> bool
         ensures answer { sound self.old → result ≡ suits (contents self.old).records place new }
-        ensures after { sound self.old → Left (sound self.new) (contents self.new) (contents self.old) (replaced result (contents self.old).records place new) };
+        ensures after { Leaves sound contents same_rest self.old self.new (λ rs. replaced result rs place new) };
 }

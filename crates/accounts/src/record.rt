@@ -2,7 +2,7 @@
 ghost use Rattle.std.specs.Prelude.{◌≡◌};
 ghost use Rattle.accounts.specs.Ranges.{account_in_range, savings_in_range, class_in_range, in_range, line_in_range};
 
-use super::limits::{MOST_ACCOUNT, MOST_CLASS, MOST_PERIODS, MOST_UNITS, WHOLE};
+use base::limits::{CLASSES, LEAST_SAVINGS, MOST_ACCOUNT, MOST_PERIODS, MOST_SAVINGS, MOST_UNITS, WHOLE};
 
 // The size of a satellite: `S`, or `L` for a demand of 25 kW or more.
 #[derive(Clone, Copy, PartialEq, Eq, Debug, Default)]
@@ -65,13 +65,13 @@ fn account_in_range(account: u64) -> bool
 fn savings_in_range(savings: u16) -> bool
     ensures { result ≡ savings_in_range savings }
 {
-    savings >= 500 && savings <= 9_800
+    savings >= LEAST_SAVINGS && savings <= MOST_SAVINGS
 }
 
 fn class_in_range(class: u8) -> bool
     ensures { result ≡ class_in_range class }
 {
-    class >= 1 && class <= MOST_CLASS
+    class >= 1 && class <= CLASSES
 }
 
 impl Record {

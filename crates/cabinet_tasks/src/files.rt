@@ -1,16 +1,16 @@
 // Packs and shows request files.
 use super::ending::Ending;
 use accounts::record::Line;
-use answer_text::refusal::refusal_line;
+use desk::refusal::refusal_line;
 use anyhow::{anyhow, bail};
-use request_writer::entry::Entry;
-use request_writer::refusal::WriteRefusal;
-use request_writer::writer::write;
+use requests::filed::FiledLine;
+use requests::packing::WriteRefusal;
+use requests::writer::write;
 use requests::limits::MAX_LINES;
 use requests::reader::{read, remark};
-use statements::packed::{Packed, read_packed};
-use statements::statement::Statement;
-use statements::write::write as write_statement;
+use journal::packed::{Packed, read_packed};
+use journal::statement::Statement;
+use journal::write::write as write_statement;
 use std::fs;
 use std::str::from_utf8;
 

@@ -3,7 +3,7 @@ use super::progress::Progress;
 use accounts::book::AccountBook;
 use accounts::project::Project;
 use crediting::method::CreditMethod;
-use posting::plan::Plan;
+use desk::plan::Plan;
 
 // Posts the calls of a plan in an empty book, by any method, and prints what came of them.
 pub trait Paper {

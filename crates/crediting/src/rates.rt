@@ -5,7 +5,7 @@ ghost use Rattle.std.specs.Prelude.{◌≡◌, not, position, Some};
 ghost use Rattle.std.proofs.Common.{rules};
 
 use super::credit::CLASSES;
-use refusals::Numbered;
+use base::refusal::Numbered;
 use std::error::Error;
 use std::fmt;
 

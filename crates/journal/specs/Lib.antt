@@ -1,4 +1,9 @@
-pub mod Histories
-pub mod Laws
-pub mod Outcomes
-pub mod Refusals
+pub mod Results
+pub mod Words
+pub mod Numbers
+pub mod Keywords
+pub mod Fields
+pub mod Meanings
+pub mod Texts
+pub mod Mistakes
+pub mod Packed

@@ -1,5 +1,10 @@
-// A run: a ledger opened on an empty book, and any list of calls performed one by one.
+// The statements of a journal: what a line of text says, and the text of a statement.
 #![tactic(auto)]
 
-pub mod refusal;
-pub mod run;
+mod keyword;
+mod number;
+pub mod packed;
+pub mod parse;
+mod reader;
+pub mod statement;
+pub mod write;

@@ -4,7 +4,7 @@ ghost use Rattle.std.proofs.Common.{rules};
 ghost use Rattle.ledger.specs.Refusals.{number, place as place_of, reason};
 
 use accounts::record::Line;
-use refusals::Numbered;
+use base::refusal::Numbered;
 use std::error::Error;
 use std::fmt;
 

@@ -1,5 +1,5 @@
 // The limits that the ledger keeps, besides those of a bill, of an account and of a book.
-use accounts::limits;
+use base::limits;
 
 // all percentages together, in thousandths of a percent
 pub(crate) const WHOLE: u64 = limits::WHOLE as u64;

@@ -7,7 +7,7 @@ use super::call::{Done, Refusal};
 use super::entries::open_entry;
 use super::ledger::Ledger;
 use accounts::book::AccountBook;
-use accounts::limits::MOST_UNITS;
+use base::limits::MOST_UNITS;
 use accounts::record::Record;
 
 impl Ledger {

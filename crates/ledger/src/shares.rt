@@ -14,7 +14,7 @@ use super::ledger::Ledger;
 use super::limits::{MOST_READ, MOST_READING, WHOLE};
 use super::phase::Phase;
 use accounts::book::AccountBook;
-use accounts::limits::{MOST_PERIODS, MOST_UNITS};
+use base::limits::{MOST_PERIODS, MOST_UNITS};
 use accounts::record::Record;
 
 // The month's metered units.

@@ -6,7 +6,7 @@ ghost use Rattle.requests.specs.declared.fault.FieldFault.TheVariants.{NotLetter
 ghost use Rattle.requests.specs.declared.fault.RequestRefusal.TheVariants.{Pair, Line};
 
 use accounts::marks::UnknownMark;
-use refusals::Numbered;
+use base::refusal::Numbered;
 use std::error::Error;
 use std::fmt;
 

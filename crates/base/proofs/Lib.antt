@@ -1,0 +1,2 @@
+pub mod Digits
+mod Zeros

@@ -1,0 +1,43 @@
+// The count and the room of the book that an image makes.
+ghost use Rattle.std.specs.Prelude.{◌≡◌};
+ghost use Rattle.books.specs.Reading.{opened_count, opened_room, started, started_room, Reads};
+ghost use Rattle.books.specs.Holding.{ComesBack};
+
+use crate::checks::{check_start, opened_count};
+use crate::layout;
+
+// How many records a book has, and how many it has room for; none in an unfit image.
+#[derive(Clone, Copy, Default)]
+pub(crate) struct Extent {
+    pub(crate) count: usize,
+    pub(crate) room: usize,
+}
+
+// Writes a count of 0 into an image that is fit, and tells its room; an unfit image stays, with no room.
+pub(crate) fn begin(image: &mut [u8]) -> usize
+    ensures image { image.new ≡ started image.old }
+    ensures room { result ≡ started_room image.old }
+    ensures reads { Reads image.new 0 result }
+{
+    if check_start(image).is_err() {
+        return 0;
+    }
+    let room = layout::capacity(image);
+    layout::put_count(image, 0);
+    room
+}
+
+// The count and the room of the book in an image.
+pub(crate) fn measure(image: &[u8]) -> Extent
+    ensures count { result.count ≡ opened_count image.now }
+    ensures room { result.room ≡ opened_room image.now }
+    ensures reads { Reads image.now result.count result.room }
+    ensures again { ComesBack image.now result.count result.room }
+{
+    opened_count(image)
+        .map(|count| Extent {
+            count,
+            room: layout::capacity(image),
+        })
+        .unwrap_or_default()
+}

@@ -1,2 +1,0 @@
-pub mod Checked
-pub mod Worked

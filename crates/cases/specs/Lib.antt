@@ -1,2 +1,0 @@
-pub mod Cases
-pub mod Checks

@@ -1,0 +1,61 @@
+// What the calls of a journal come to together.
+ghost use Rattle.std.specs.Prelude.{Some};
+ghost use Rattle.desk.specs.BookLines.{units_text, cents_text};
+
+use std::fmt;
+
+// Units: those read are used, forfeited, in the host's bank or held by accounts.
+#[derive(Clone, Copy, PartialEq, Eq, Debug)]
+pub struct UnitTotals {
+    pub read: u128,
+    pub used: u128,
+    pub forfeited: u128,
+    pub bank: u128,
+    pub held: u128,
+}
+
+impl fmt::Display for UnitTotals {
+    ghost output = { λ totals. Some (units_text totals) };
+
+    fn fmt<W: fmt::Write>(&self, f: &mut fmt::Formatter<W>) -> fmt::Result {
+        let UnitTotals {
+            read,
+            used,
+            forfeited,
+            bank,
+            held,
+        } = *self;
+        write!(
+            f,
+            "units: read {read} used {used} forfeited {forfeited} bank {bank} held {held}"
+        )
+    }
+}
+
+// Cents: the applied credits are net credits, what the host is paid, utility fees, or fees of the open period.
+#[derive(Clone, Copy, PartialEq, Eq, Debug)]
+pub struct CentTotals {
+    pub applied: u128,
+    pub net: u128,
+    pub paid: u128,
+    pub utility: u128,
+    pub open: u128,
+}
+
+impl fmt::Display for CentTotals {
+    ghost output = { λ totals. Some (cents_text totals) };
+
+    fn fmt<W: fmt::Write>(&self, f: &mut fmt::Formatter<W>) -> fmt::Result {
+        let CentTotals {
+            applied,
+            net,
+            paid,
+            utility,
+            open,
+        } = *self;
+        write!(
+            f,
+            "cents: applied {applied} net {net} paid {paid} utility {utility} open {open}"
+        )
+    }
+}

@@ -1,6 +1,0 @@
-use Rattle.std.proofs.Common.{rules}
-use Rattle.image_book.proofs.Opening.{reads_opened}
-use Rattle.image_book.proofs.making.measure.Goals as goal
-
-pub returns-clause-reads : goal.returns-clause-reads
-returns-clause-reads c = reads_opened c.args.image.now _ _ (search rules) (search rules)

@@ -1,4 +1,0 @@
-pub mod Images
-pub mod Refusals
-pub mod Reading
-pub mod Holding

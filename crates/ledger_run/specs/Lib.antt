@@ -1,0 +1,4 @@
+pub mod Histories
+pub mod Laws
+pub mod Outcomes
+pub mod Refusals

@@ -1,7 +1,0 @@
-use Rattle.std.proofs.Common.{◌≡◌, map, take}
-use Rattle.posting.specs.Plans.{seen, begun, planned, told}
-use Rattle.posting.proofs.growing.plan.Given as goal
-
-abbrev pub invariant-loop-one : goal.invariant-loop-one
-invariant-loop-one g l =
-    seen g.M.CreditMethod.worth l.plan ≡ planned g.M.Rated.worths begun (map told (take l.one-index l.entries))

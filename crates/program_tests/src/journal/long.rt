@@ -1,0 +1,25 @@
+// A journal of over a megabyte is read whole, and every bill of it becomes a call.
+use crediting::value_stack::ValueStack;
+use journal::text::read_journal;
+use desk::plan::plan;
+use desk::plan::Plan;
+use std::test::Fail;
+
+const BILLS: usize = 60_000;
+
+#[test]
+fn sixty_thousand_bills(rt: HostRuntime) -> Result<(), Fail> {
+    let heap = rt.alloc();
+    let mut text = Vec::from_slice(heap, b"method value-stack\nbook table 1\nopen 1 plain\n")?;
+    for _ in 0..BILLS {
+        text.extend_from_slice(b"bill 20010000001 100\n")?;
+    }
+    assert!(rt; text.len() > 1_000_000);
+    let journal = read_journal(text.as_slice(), heap)?;
+    assert_eq!(rt; journal.lines, BILLS + 3);
+    assert_eq!(rt; journal.entries.len(), BILLS + 3);
+    let plan: Plan<ValueStack> = plan(journal.entries.as_slice(), heap)?;
+    assert_eq!(rt; plan.calls.len(), BILLS);
+    assert_eq!(rt; plan.notes.len(), BILLS);
+    Ok(())
+}

@@ -1,2 +1,0 @@
-pub mod Packing
-pub mod Reasons

@@ -1,9 +1,0 @@
-pub mod Results
-pub mod Words
-pub mod Numbers
-pub mod Keywords
-pub mod Fields
-pub mod Meanings
-pub mod Texts
-pub mod Mistakes
-pub mod Packed
