@@ -2,7 +2,9 @@
 ghost use Rattle.std.specs.Prelude.{◌≡◌};
 ghost use Rattle.accounts.specs.Ranges.{account_in_range, savings_in_range, class_in_range, in_range, line_in_range};
 
-use base::limits::{CLASSES, LEAST_SAVINGS, MOST_ACCOUNT, MOST_PERIODS, MOST_SAVINGS, MOST_UNITS, WHOLE};
+use base::limits::{
+    CLASSES, LEAST_SAVINGS, MOST_ACCOUNT, MOST_PERIODS, MOST_SAVINGS, MOST_UNITS, WHOLE,
+};
 
 // The size of a satellite: `S`, or `L` for a demand of 25 kW or more.
 #[derive(Clone, Copy, PartialEq, Eq, Debug, Default)]

@@ -11,9 +11,10 @@ use Rattle.accounts.specs.declared.record.Line.{Line}
 use Rattle.accounts.specs.declared.record.Record.{Record}
 use Rattle.accounts.specs.Ranges.{in_range, line_in_range}
 use Rattle.ledger.specs.Lines.{joins, new_accounts, enter}
-use Rattle.ledger.proofs.Found.{present_found, accounts_put, put_length}
+use Rattle.accounts.proofs.Found.{present_found, accounts_put, put_length}
 use Rattle.ledger.proofs.Scanning.{zero_line}
-use Rattle.ledger.specs.Records.{record_of, unallocated, allocated, joining}
+use Rattle.accounts.specs.Records.{record_of}
+use Rattle.ledger.specs.Records.{unallocated, allocated, joining}
 
 pub unallocated_in_range : (r : Record) → in_range r ≡ true → in_range (unallocated r) ≡ true
 unallocated_in_range r h = grind (arith, nat_tests)

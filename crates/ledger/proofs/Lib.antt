@@ -1,9 +1,5 @@
-pub mod Fees
-pub mod Found
-pub mod Totals
-pub mod Locating
-pub mod Scanning
-pub mod Sharing
-pub mod Replacing
 pub mod Entering
+pub mod Fees
+pub mod Outcomes
 pub mod Requests
+pub mod Scanning

@@ -9,13 +9,13 @@ use Rattle.accounts.specs.declared.record.Line.{Line}
 use Rattle.accounts.specs.declared.record.Record.{Record}
 use Rattle.accounts.specs.Books.{Contents, present, distinct, every, Left}
 use Rattle.accounts.specs.Ranges.{line_in_range}
-use Rattle.ledger.specs.declared.call.Refusal.{Refusal}
-use Rattle.ledger.specs.declared.call.Refusal.TheVariants as why
-use Rattle.ledger.specs.Lines.{enrolled, enter_all, judge_lines, large_percentage, line_accounts, new_accounts, repeated_from, unless_at}
+use Rattle.ledger.specs.declared.refusal.Refusal.{Refusal}
+use Rattle.ledger.specs.declared.refusal.Refusal.TheVariants as why
+use Rattle.ledger.specs.Lines.{FitsLines, enrolled, first_closed, enter_all, judge_lines, large_percentage, line_accounts, new_accounts, repeated_from, unless_at}
 use Rattle.ledger.specs.Records.{unallocated}
 use Rattle.ledger.specs.Refusals.{number}
 use Rattle.ledger.proofs.Entering.{none_out, unallocated_accounts}
-use Rattle.ledger.proofs.Replacing.{left_as, left_on}
+use Rattle.accounts.proofs.Leaving.{left_as, left_on}
 
 -- accounts of which none is repeated stand on no later line
 unrepeated : (a i : ℕ) (earlier later : List ℕ) → repeated_from i earlier later ≡ None → present a earlier ≡ true → present a later ≡ false
@@ -79,8 +79,8 @@ ready smallest farm room rs ls new few e =
     record { ranged = none_out 0 ls ok.ranged; fits = omega (arith, same, ok.fits, length-map rs unallocated) }
 
 -- percentages are taken away, and then the lines entered
-pub enrols : {S S' : Type 0} {c c₁ c₂ : Contents} (smallest : ℕ) (farm : Bool) (ls : List Line) (new : ℕ) → length c.records ≤ c.room → Ok new ≡ judge_lines smallest farm c.room c.records ls → Left S c₁ c (map unallocated c.records) → (S → every line_in_range ls ≡ true → length c₁.records + new_accounts c₁.records ls ≤ c₁.room → Left S' c₂ c₁ (enter_all c₁.records ls)) → Left S' c₂ c (enrolled c.records ls)
-enrols {c = c} {c₁ = c₁} smallest farm ls new few e cleared enters =
-    let fit = ready smallest farm c.room c.records ls new few e in
-    let fits = subst (λ xs. length xs + new_accounts xs ls ≤ c₁.room) (sym cleared.list) (omega (arith, cleared.same_room, fit.fits)) in
-    left_on cleared (left_as (enters cleared.stays fit.ranged fits) (ap (λ xs. enter_all xs ls) cleared.list))
+pub enrols : {B : Type 0} {sound : B → Type 0} {contents : B → Contents} {rest : B → B → Type 0} (follows : (a b c : B) → rest a b → rest b c → rest a c) (smallest : ℕ) (farm : Bool) (ls : List Line) (new : ℕ) (a b c : B) → length (contents a).records ≤ (contents a).room → Ok new ≡ judge_lines smallest farm (contents a).room (contents a).records ls → Left sound contents rest a b (map unallocated (contents a).records) → (sound b → every line_in_range ls ≡ true → FitsLines (contents b) ls → Left sound contents rest b c (enter_all (contents b).records ls)) → Left sound contents rest a c (enrolled (contents a).records ls)
+enrols {contents = contents} follows smallest farm ls new a b c few e cleared enters =
+    let fit = ready smallest farm (contents a).room (contents a).records ls new few e in
+    let fits = subst (λ xs. length xs + new_accounts xs ls ≤ (contents b).room) (sym cleared.list) (omega (arith, cleared.kept.same_room, fit.fits)) in
+    left_on follows cleared (left_as (enters cleared.kept.stays fit.ranged fits) (ap (λ xs. enter_all xs ls) cleared.list))

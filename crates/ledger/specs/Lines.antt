@@ -1,14 +1,14 @@
 -- When the lines of an allocation request are enrolled, and what they make of the records.
-use Rattle.std.specs.Prelude.{ℕ, ◌+◌, ◌-◌, Bool, false, cond, not, ◌&&◌, ◌||◌, List, [], ◌∷◌, ◌++◌, map, length, Some, None, Ok, Err, Option, Result, nat_lt, sum_by, count_by}
+use Rattle.std.specs.Prelude.{ℕ, ◌+◌, ◌-◌, ◌≤◌, Bool, false, cond, not, ◌&&◌, ◌||◌, List, [], ◌∷◌, ◌++◌, map, length, Some, None, Ok, Err, Option, Result, nat_lt, sum_by, count_by}
 use Rattle.std.specs.List.{position_from}
 use Rattle.accounts.specs.declared.record.Line.{Line}
 use Rattle.accounts.specs.declared.record.Record.{Record}
 use Rattle.accounts.specs.declared.record.Size.{Size}
 use Rattle.accounts.specs.declared.record.Size.TheVariants.{Small, Large}
 use Rattle.accounts.specs.Ranges.{line_in_range}
-use Rattle.accounts.specs.Books.{accounts, present}
-use Rattle.ledger.specs.declared.call.Refusal.{Refusal}
-use Rattle.ledger.specs.declared.call.Refusal.TheVariants.{
+use Rattle.accounts.specs.Books.{Contents, accounts, present}
+use Rattle.ledger.specs.declared.refusal.Refusal.{Refusal}
+use Rattle.ledger.specs.declared.refusal.Refusal.TheVariants.{
   WrongLineCount,
   LineOutOfRange,
   AccountRepeated,
@@ -17,7 +17,10 @@ use Rattle.ledger.specs.declared.call.Refusal.TheVariants.{
   LargePercentagesPass,
   BookTooSmall,
 }
-use Rattle.ledger.specs.Records.{record_of, put, is_closed, unallocated, allocated, joining}
+use Rattle.accounts.specs.Records.{record_of, put, is_closed}
+use Rattle.base.specs.Limits.{most_lines, whole}
+use Rattle.ledger.specs.Limits.{most_large}
+use Rattle.ledger.specs.Records.{unallocated, allocated, joining}
 
 abbrev pub line_accounts : List Line → List ℕ
 line_accounts ls = map (λ l. l.account) ls
@@ -33,6 +36,10 @@ has_closed (Some r) = is_closed r.state
 
 abbrev pub names_closed : List Record → Line → Bool
 names_closed rs l = has_closed (record_of l.account rs)
+
+-- the place of the first line of a closed account
+abbrev pub first_closed : List Record → List Line → Option ℕ
+first_closed rs ls = position_from (names_closed rs) 0 ls
 
 -- a line's percentage, if its size is large
 abbrev pub large_part : Size → ℕ → ℕ
@@ -61,12 +68,12 @@ unless_at refusal (Some place) rest = Err (refusal place)
 -- the number of new accounts, or the first refusal that applies
 abbrev pub judge_lines : ℕ → Bool → ℕ → List Record → List Line → Result ℕ Refusal
 judge_lines smallest farm room rs ls =
-    cond (nat_lt (length ls) smallest || nat_lt 1024 (length ls)) (Err WrongLineCount)
+    cond (nat_lt (length ls) smallest || nat_lt most_lines (length ls)) (Err WrongLineCount)
     (unless_at LineOutOfRange (position_from (λ l. not (line_in_range l)) 0 ls)
     (unless_at AccountRepeated (repeated_from 0 [] (line_accounts ls))
-    (unless_at LineOfClosedAccount (position_from (names_closed rs) 0 ls)
-    (cond (nat_lt 100000 (sum_by (λ l. l.percentage) ls)) (Err PercentagesPass)
-    (cond (not farm && nat_lt 40000 (sum_by large_percentage ls)) (Err LargePercentagesPass)
+    (unless_at LineOfClosedAccount (first_closed rs ls)
+    (cond (nat_lt whole (sum_by (λ l. l.percentage) ls)) (Err PercentagesPass)
+    (cond (not farm && nat_lt most_large (sum_by large_percentage ls)) (Err LargePercentagesPass)
     (cond (nat_lt (room - length rs) (new_accounts rs ls)) (Err BookTooSmall)
     (Ok (new_accounts rs ls))))))))
 
@@ -75,9 +82,19 @@ abbrev pub enter : Option Record → List Record → Line → List Record
 enter None rs l = rs ++ joining l ∷ []
 enter (Some r) rs l = put (allocated l r) rs
 
+abbrev pub enter_line : List Record → Line → List Record
+enter_line rs l = enter (record_of l.account rs) rs l
+
 abbrev pub enter_all : List Record → List Line → List Record
 enter_all rs [] = rs
-enter_all rs (l ∷ ls) = enter_all (enter (record_of l.account rs) rs l) ls
+enter_all rs (l ∷ ls) = enter_all (enter_line rs l) ls
+
+-- a book has room for the accounts that a line adds, and that all lines add
+abbrev pub FitsLine : Contents → Line → Type 0
+FitsLine b l = length b.records + joins b.records l ≤ b.room
+
+abbrev pub FitsLines : Contents → List Line → Type 0
+FitsLines b ls = length b.records + new_accounts b.records ls ≤ b.room
 
 -- the records after an accepted request: those of other accounts keep no percentage
 abbrev pub enrolled : List Record → List Line → List Record

@@ -1,7 +1,7 @@
 -- The number of each refusal, the place that it tells, 0 where it tells none, and its reason in words.
 use Rattle.std.specs.Prelude.{ℕ, List, codes}
-use Rattle.ledger.specs.declared.call.Refusal.{Refusal}
-use Rattle.ledger.specs.declared.call.Refusal.TheVariants.{
+use Rattle.ledger.specs.declared.refusal.Refusal.{Refusal}
+use Rattle.ledger.specs.declared.refusal.Refusal.TheVariants.{
   WrongSmallest,
   BookHasRecords,
   InPeriod,

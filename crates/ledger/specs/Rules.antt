@@ -1,16 +1,12 @@
--- How a reading is shared out, and how an applied credit is divided among satellite, host and utility.
+-- How an applied credit is divided among satellite, host and utility.
 use Rattle.std.specs.Prelude.{ℕ, ◌+◌, ◌-◌, ◌*◌, ◌/◌}
 use Rattle.accounts.specs.declared.record.Kind.{Kind}
 use Rattle.accounts.specs.declared.record.Kind.TheVariants.{Member, Anchor}
+use Rattle.ledger.specs.Limits.{basis, utility_rate}
 
--- a satellite's share of a reading: its percentage, in thousandths of a percent, rounded down
-abbrev pub share : ℕ → ℕ → ℕ
-share units percentage = units * percentage / 100000
-
--- what a satellite keeps of an applied credit: a member its savings rate, in hundredths of a percent, rounded down; an
--- excluded anchor all of it
+-- what a satellite keeps of an applied credit: a member its savings rate, rounded down; an excluded anchor all of it
 abbrev pub net_credit : Kind → ℕ → ℕ → ℕ
-net_credit Member savings applied = applied * savings / 10000
+net_credit Member savings applied = applied * savings / basis
 net_credit Anchor savings applied = applied
 
 -- the subscription fee is the rest, so that net credit and fee are the applied credit to the cent
@@ -22,6 +18,6 @@ abbrev pub counted : Kind → ℕ → ℕ
 counted Member applied = applied
 counted Anchor applied = 0
 
--- one and a half percent of the period's members' applied credits, to the nearest cent, half up
+-- the utility's part of the period's members' applied credits, to the nearest cent, half up
 abbrev pub utility_fee : ℕ → ℕ
-utility_fee applied = (applied * 150 + 5000) / 10000
+utility_fee applied = (applied * utility_rate + basis / 2) / basis

@@ -1,8 +1,8 @@
 -- A ledger with the records of its book, apart from how either is kept.
 use Rattle.std.specs.Prelude.{ℕ, Bool, List, Ok, Err, Result}
 use Rattle.accounts.specs.declared.record.Record.{Record}
-use Rattle.ledger.specs.declared.call.Done.{Done}
-use Rattle.ledger.specs.declared.call.Refusal.{Refusal}
+use Rattle.ledger.specs.declared.answer.Done.{Done}
+use Rattle.ledger.specs.declared.refusal.Refusal.{Refusal}
 use Rattle.ledger.specs.declared.phase.Phase.{Phase}
 
 pub record State : Type 0 where
@@ -26,13 +26,10 @@ pub record Outcome : Type 0 where
   pub state : State
   pub answer : Result Done Refusal
 
+-- a refused call changes nothing
 abbrev pub declined : State → Refusal → Outcome
 declined s why = record { state = s; answer = Err why }
 
--- a performed call: its phase, closed periods, bank, readings and records, the rest as before
-abbrev pub performed : State → Phase → ℕ → ℕ → ℕ → List Record → Done → Outcome
-performed s phase closed bank read records done =
-    record {
-      state = record s { phase = phase; closed = closed; bank = bank; read = read; records = records };
-      answer = Ok done;
-    }
+-- a call that is performed, with what it leaves
+abbrev pub accepted : State → Done → Outcome
+accepted left done = record { state = left; answer = Ok done }

@@ -1,22 +1,24 @@
-// A bill of an account, and what becomes of the account's record.
+//! A bill of an account, and what becomes of the account's record.
 ghost use Rattle.std.specs.Prelude.{◌≡◌, ◌*◌, ◌-◌, ◌≤◌};
+ghost use Rattle.base.specs.Limits.{most_bill};
 ghost use Rattle.ledger.specs.Records.{billed, ended};
 ghost use Rattle.ledger.specs.Rules.{counted, net_credit};
 ghost use Rattle.ledger.specs.Steps.{posting};
 
-use super::call::Posting;
-use super::entry::Entry;
+use super::answer::Posting;
+use super::limits::BASIS;
+use accounts::entry::Entry;
 use accounts::record::{Kind, Record, State};
 use crediting::method::CreditMethod;
 
 // What a satellite keeps of an applied credit.
 fn net_credit(entry: Entry, applied: u64) -> u64
-    requires { applied ≤ 1000000000 }
+    requires { applied ≤ most_bill }
     ensures value { result ≡ net_credit entry.holder.kind entry.holder.savings applied }
     ensures part { result ≤ applied }
 {
     match entry.holder.kind {
-        Kind::Member => applied * u64::from(entry.holder.savings) / 10_000,
+        Kind::Member => applied * u64::from(entry.holder.savings) / BASIS,
         Kind::Anchor => applied,
     }
 }
@@ -34,10 +36,10 @@ pub(crate) struct Bill {
 impl Bill {
     // The bill of an account by a crediting method.
     pub(crate) fn post<M: CreditMethod>(method: &M, account: Entry, cents: u64) -> Bill
-        requires { cents ≤ 1000000000 }
+        requires { cents ≤ most_bill }
         ensures whose { result.account ≡ account }
         ensures value { result.posting ≡ posting (M.worth method.now) account.holder cents }
-        ensures bound { result.posting.applied ≤ 1000000000 }
+        ensures bound { result.posting.applied ≤ most_bill }
     {
         let credit = method.credit(account.holder.class, account.holder.held, cents);
         let net = net_credit(account, credit.applied);

@@ -1,18 +1,14 @@
-// The net crediting ledger of one host: phases, calls, answers and refusals, over any crediting method and any account
-// book.
+//! The net crediting ledger of one host: phases, calls, answers and refusals, over any crediting method and any account
+//! book.
 #![tactic(auto)]
 
+pub mod answer;
 mod bill;
-mod bills;
 pub mod call;
-mod calls;
 mod enrolment;
-mod entries;
-mod entry;
 pub mod ledger;
 mod limits;
 mod lines;
-mod moves;
+mod period;
 pub mod phase;
-mod shares;
-mod tells;
+pub mod refusal;

@@ -1,11 +1,12 @@
-// When the lines of a request are enrolled.
+//! When the lines of a request are enrolled.
 ghost use Rattle.std.specs.Prelude.{◌≡◌, ◌≤◌, ◌==◌, not, [], length, sum_by};
 ghost use Rattle.std.specs.List.{list_any, position_from};
+ghost use Rattle.base.specs.Limits.{most_lines};
 ghost use Rattle.accounts.specs.Ranges.{line_in_range};
-ghost use Rattle.ledger.specs.Lines.{line_accounts, repeated_from, large_percentage, is_new, names_closed, new_accounts};
+ghost use Rattle.ledger.specs.Lines.{line_accounts, repeated_from, large_percentage, is_new, names_closed, new_accounts, first_closed};
 
-use super::entries::entry_at;
 use accounts::book::AccountBook;
+use accounts::entries::find_entry;
 use accounts::record::{Line, Size, State};
 
 // The place of the first line with a value out of range.
@@ -50,7 +51,7 @@ pub(crate) struct Sums {
 }
 
 pub(crate) fn percentages(lines: &[Line]) -> Sums
-    requires { length lines.now ≤ 1024 }
+    requires { length lines.now ≤ most_lines }
     ensures all { result.all ≡ sum_by (λ l. l.percentage) lines.now }
     ensures large { result.large ≡ sum_by large_percentage lines.now }
 {
@@ -65,20 +66,16 @@ pub(crate) fn percentages(lines: &[Line]) -> Sums
 
 // The place of the first line of a closed account.
 pub(crate) fn first_closed<B: AccountBook>(book: &B, lines: &[Line]) -> Option<usize>
-    ensures { B.sound book.now → result ≡ position_from (names_closed (B.contents book.now).records) 0 lines.now }
+    ensures { B.sound book.now → result ≡ first_closed (B.contents book.now).records lines.now }
 {
     lines.iter().position(|line| is_closed(book, line))
 }
 
 // Whether a line's account is closed.
-#[tactic(auto, using(crate::proofs::Locating::missing))]
 fn is_closed<B: AccountBook>(book: &B, line: &Line) -> bool
     ensures { B.sound book.now → result ≡ names_closed (B.contents book.now).records line.now }
 {
-    let Some(place) = book.search(line.account) else {
-        return false;
-    };
-    entry_at(book, place).is_some_and(|entry| entry.holder.state == State::Closed)
+    find_entry(book, line.account).is_some_and(|entry| entry.holder.state == State::Closed)
 }
 
 // How many lines are of accounts that the book lacks.

@@ -5,8 +5,8 @@ use Rattle.ledger.proofs.enrolment.clear_percentages.Goals as goal
 
 pub returns : goal.returns
 returns g c s =
-    c.replace_each.ensures s unallocated (record {
+    c.replace_each.ensures unallocated (record {
       computed = λ x new k. search (rules, tests);
       whose = λ r. refl;
       ranged = λ i r e k. unallocated_in_range r k;
-    })
+    }) s

@@ -2,12 +2,12 @@ use Rattle.std.proofs.Common.{true, sym, ap, ◌∙◌}
 use Rattle.accounts.specs.Books.{takes, added}
 use Rattle.ledger.specs.Lines.{enter}
 use Rattle.ledger.proofs.Entering.{absent, takes_joining}
-use Rattle.ledger.proofs.Locating.{missing}
-use Rattle.ledger.proofs.Replacing.{left_as}
+use Rattle.accounts.proofs.Locating.{missing}
+use Rattle.accounts.proofs.Leaving.{left_as}
 use Rattle.ledger.proofs.enrolment.enter_line.Goals as goal
 
 pub returns-in-None : goal.returns-in-None
-returns-in-None g c s k fits =
+returns-in-None g c k fits s =
     let b = g.B.AccountBook in
     let rs = (b.contents c.args.book.now).records in
     let room = (b.contents c.args.book.now).room in

@@ -1,8 +1,8 @@
 use Rattle.std.proofs.Common.{Ok, ap, ◌∙◌}
 use Rattle.ledger.specs.Steps.{enrol_judged}
 use Rattle.ledger.specs.Views.{view}
-use Rattle.ledger.specs.declared.call.Done.TheVariants.{Enrolled}
-use Rattle.ledger.proofs.Replacing.{keeps, outcome_left}
+use Rattle.ledger.specs.declared.answer.Done.TheVariants.{Enrolled}
+use Rattle.ledger.proofs.Outcomes.{outcome_left}
 use Rattle.ledger.proofs.Requests.{enrols}
 use Rattle.ledger.proofs.ledger.Ledger.enrol.Goals as goal
 
@@ -12,12 +12,10 @@ returns g c =
     let l = c.args.self.now in
     let ls = c.args.lines.now in
     let judged = c.in_ok-new.ensures in
-    let left = λ (s : b.sound c.args.book.now). enrols l.project.smallest l.project.farm ls c.in_ok-new.new (b.proper c.args.book.now s).fits (judged s) (c.clear_percentages.ensures s) c.enter_lines.ensures in
+    let left = λ (s : b.sound c.args.book.now). enrols b.rest_follows l.project.smallest l.project.farm ls c.in_ok-new.new c.args.book.now _ _ (b.proper c.args.book.now s).fits (judged s) (c.clear_percentages.ensures s) (λ t ranged fits. c.enter_lines.ensures ranged fits t) in
     record {
-      kept = λ s. keeps (left s);
-      steps = λ s.
-          let e = left s in
-          let answer = Ok (Enrolled c.in_ok-new.new) in
-          outcome_left l answer e
+      keeps = λ s. (left s).kept;
+      performs = λ s.
+          outcome_left l (Ok (Enrolled c.in_ok-new.new)) (left s)
           ∙ ap (enrol_judged (view l (b.contents c.args.book.now)) ls) (judged s);
     }

@@ -1,6 +1,6 @@
 -- A loop over the records of a reading.
-use Rattle.std.proofs.Common.{◌≡◌, ℕ, ◌+◌, ◌*◌, ◌<◌, ◌≤◌, Bool, true, false, ltb, List, ◌∷◌, drop, Some, ap, ◌∙◌, subst, mul-add, arith, sum_by}
-use Rattle.std.proofs.lemmas.Bool.{or_parts}
+use Rattle.std.proofs.Common.{◌≡◌, ℕ, ◌+◌, ◌*◌, ◌<◌, ◌≤◌, Bool, true, false, ltb, List, ◌∷◌, drop, None, Some, sym, ap, ◌∙◌, subst, mul-add, arith, sum_by}
+use Rattle.std.proofs.lemmas.Bool.{cond-true, or_parts}
 use Rattle.std.proofs.lemmas.List.Folds.{list_any_at}
 use Rattle.std.proofs.lemmas.List.Sums.{sum_by-cons}
 use Rattle.std.proofs.lemmas.Option.{get_or_from_slice_get, slice_get_within}
@@ -9,9 +9,9 @@ use Rattle.std.proofs.lemmas.Bool.Decides.{nat_tests}
 use Rattle.std.specs.List.{list_any, slice_get}
 use Rattle.accounts.specs.declared.record.Record.{Record}
 use Rattle.accounts.specs.Ranges.{in_range}
-use Rattle.ledger.specs.Records.{gaining}
-use Rattle.ledger.specs.Rules.{share}
-use Rattle.ledger.specs.Steps.{shares, foreign_to_reading}
+use Rattle.sharing.specs.Shares.{gaining}
+use Rattle.sharing.specs.Shares.{share}
+use Rattle.sharing.specs.Shares.{shares, foreign_to_reading, all_shares}
 
 -- shares rounded down are within their percentages of the reading
 pub shared_within : (units percentages shared percentage gain : ℕ) → gain ≡ share units percentage → shared * 100000 ≤ units * percentages → (shared + gain) * 100000 ≤ units * (percentages + percentage)
@@ -69,3 +69,7 @@ pub gains_in_range : (units : ℕ) (rs : List Record) (i : ℕ) (r : Record) →
 gains_in_range units rs i r h e k =
     let o = not_overfull units rs i r (or_parts _ (list_any (overfull units) rs) h).1 e in
     grind (arith, nat_tests)
+
+-- the book of another ledger has no shares
+pub foreign_shares : (units : ℕ) (rs : List Record) → foreign_to_reading units rs ≡ true → None ≡ all_shares units rs
+foreign_shares units rs h = sym (cond-true (foreign_to_reading units rs) None (Some (shares units rs)) h)

@@ -1,6 +1,6 @@
 use Rattle.std.proofs.Common.{◌*◌, ◌≤◌, drop}
-use Rattle.ledger.proofs.Sharing.{LeftToShare}
-use Rattle.ledger.proofs.shares.Reading.judge_shares.Given as goal
+use Rattle.sharing.proofs.Sharing.{LeftToShare}
+use Rattle.sharing.proofs.reading.Reading.judge.Given as goal
 
 -- what is left of each sum; and whatever the book, the shares so far are within their percentages of the reading
 abbrev pub invariant-loop-place : goal.invariant-loop-place

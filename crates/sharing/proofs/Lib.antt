@@ -1,0 +1,2 @@
+pub mod Sharing
+pub mod Totals
