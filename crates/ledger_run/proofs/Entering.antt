@@ -7,8 +7,9 @@ use Rattle.accounts.specs.declared.record.Line.{Line}
 use Rattle.accounts.specs.declared.record.Record.{Record}
 use Rattle.accounts.specs.Books.{accounts, present, distinct}
 use Rattle.ledger.specs.Lines.{enter, enter_all, is_new, joins, line_accounts, new_accounts}
-use Rattle.ledger.specs.Records.{allocated, joining, record_of}
-use Rattle.ledger.proofs.Found.{found_account, push_found, put_found, put_length, put_sum, present_found, accounts_put}
+use Rattle.ledger.specs.Records.{allocated, joining}
+use Rattle.accounts.specs.Records.{record_of}
+use Rattle.accounts.proofs.Found.{found_account, push_found, put_found, put_length, put_sum, present_found, accounts_put}
 use Rattle.std.proofs.lemmas.List.Sums.{sum_by-cons, sum_by_push}
 
 -- a line's values for an account that has a record, or has none

@@ -1,10 +1,18 @@
 mod Amounts
+mod Booked
+mod Bounding
+mod Checked
+mod Conserving
 mod Entering
-mod Ties
-mod Standing
-mod Moving
-mod Billing
-mod Enrolling
-mod Stepping
+mod Moves
+mod Posted
+mod Reading
+mod Ruling
 pub mod Runs
+mod Standing
+mod Stepping
+mod Ties
+mod Told
 mod Turns
+mod Tying
+mod WorkedPosted

@@ -7,11 +7,13 @@ use Rattle.accounts.specs.declared.record.Line.{Line}
 use Rattle.accounts.specs.declared.record.Record.{Record}
 use Rattle.accounts.specs.Ranges.{line_in_range}
 use Rattle.crediting.specs.Ranges.{is_class}
-use Rattle.ledger.specs.Records.{allocated, gaining, joining, is_closed, put, record_of, unallocated}
-use Rattle.ledger.specs.Rules.{share}
+use Rattle.ledger.specs.Records.{allocated, joining, unallocated}
+use Rattle.sharing.specs.Shares.{gaining}
+use Rattle.accounts.specs.Records.{is_closed, put, record_of}
+use Rattle.sharing.specs.Shares.{share}
 use Rattle.ledger_run.specs.Histories.{class_on, percentage_on}
 use Rattle.ledger_run.proofs.Entering.{entry, placed}
-use Rattle.ledger.proofs.Found.{nowhere, put_found}
+use Rattle.accounts.proofs.Found.{nowhere, put_found}
 
 -- an account with no record has been given nothing
 pub record Unknown (percentage given used : ℕ) : Type 0 where

@@ -1,7 +1,7 @@
 -- The definitions come to the numbers of the worked history.
 use Rattle.std.proofs.Common.{◌≡◌, ℕ, ◌+◌, List, vec_items, refl, ap, ◌∙◌}
 use Rattle.accounts.specs.declared.record.Line.{Line}
-use Rattle.ledger.specs.Rules.{share}
+use Rattle.sharing.specs.Shares.{share}
 use Rattle.ledger_run.specs.Histories.{class_on, percentage_on, percentage_of, class_of, shares_of, disbursed_to, used_by}
 use Rattle.ledger_run.specs.WorkedHistory.{WorkedHistory, first_lines, second_lines}
 

@@ -3,14 +3,14 @@
 use Rattle.std.specs.Prelude.{ℕ, ◌+◌, cond, List, [], ◌∷◌, Ok, Err, vec_items, Result, Vec, ◌==◌}
 use Rattle.std.specs.declared.alloc.Global.{Global}
 use Rattle.accounts.specs.declared.record.Line.{Line}
-use Rattle.ledger.specs.Rules.{share}
+use Rattle.sharing.specs.Shares.{share}
 use Rattle.ledger.specs.declared.call.Call.{Call}
 use Rattle.ledger.specs.declared.call.Call.TheVariants as call
-use Rattle.ledger.specs.declared.call.Done.{Done}
-use Rattle.ledger.specs.declared.call.Done.TheVariants as done
-use Rattle.ledger.specs.declared.call.Posting.{Posting}
-use Rattle.ledger.specs.declared.call.Refusal.{Refusal}
-use Rattle.ledger.specs.declared.call.Settlement.{Settlement}
+use Rattle.ledger.specs.declared.answer.Done.{Done}
+use Rattle.ledger.specs.declared.answer.Done.TheVariants as done
+use Rattle.ledger.specs.declared.answer.Posting.{Posting}
+use Rattle.ledger.specs.declared.refusal.Refusal.{Refusal}
+use Rattle.ledger.specs.declared.answer.Settlement.{Settlement}
 
 -- a call with its answer, a case for each kind of accepted call, and one for a call that was declined
 pub data Event (M : Type 0) : Type 0 where

@@ -10,8 +10,8 @@ use Rattle.accounts.specs.declared.record.State.TheVariants.{Closed}
 use Rattle.crediting.specs.Worths.{cents}
 use Rattle.ledger.specs.declared.call.Call.{Call}
 use Rattle.ledger.specs.declared.call.Call.TheVariants.{Enrol, Reading, Bill, FinalBill as final, Disburse, Lapse as lapsing, Close}
-use Rattle.ledger.specs.declared.call.Done.TheVariants.{Opened, FinallyBilled, Disbursed, Lapsed}
-use Rattle.ledger.specs.declared.call.Refusal.{Refusal}
+use Rattle.ledger.specs.declared.answer.Done.TheVariants.{Opened, FinallyBilled, Disbursed, Lapsed}
+use Rattle.ledger.specs.declared.refusal.Refusal.{Refusal}
 use Rattle.ledger.specs.declared.phase.Phase.TheVariants.{Between, InPeriod}
 use Rattle.ledger.specs.Lines.{enrolled, judge_lines}
 use Rattle.ledger.specs.Refusals.{number, place}

@@ -4,8 +4,8 @@ use Rattle.std.specs.declared.alloc.Global.{Global}
 use Rattle.accounts.specs.declared.record.Kind.TheVariants.{Member}
 use Rattle.accounts.specs.declared.record.Line.{Line}
 use Rattle.accounts.specs.declared.record.Size.TheVariants.{Small}
-use Rattle.ledger.specs.declared.call.Posting.{Posting}
-use Rattle.ledger.specs.declared.call.Refusal.TheVariants.{InPeriod}
+use Rattle.ledger.specs.declared.answer.Posting.{Posting}
+use Rattle.ledger.specs.declared.refusal.Refusal.TheVariants.{InPeriod}
 use Rattle.ledger.specs.declared.call.Call.TheVariants.{Disburse}
 use Rattle.ledger_run.specs.Histories.{History, enrolled, opened, billed, finally_billed, disbursed, lapsed, closed, declined, percentage_of, class_of, shares_of, disbursed_to, used_by, given, units_read, units_forfeited, of_bill, of_close}
 

@@ -7,8 +7,8 @@ use Rattle.accounts.specs.declared.record.Size.{Size}
 use Rattle.accounts.specs.declared.record.Size.TheVariants.{Small, Large}
 use Rattle.accounts.specs.declared.record.State.TheVariants.{Open}
 use Rattle.crediting.specs.Worths.{cents, by_rates}
-use Rattle.ledger.specs.declared.call.Done.TheVariants.{Opened, Billed, Closed}
-use Rattle.ledger.specs.declared.call.Refusal.{Refusal}
+use Rattle.ledger.specs.declared.answer.Done.TheVariants.{Opened, Billed, Closed}
+use Rattle.ledger.specs.declared.refusal.Refusal.{Refusal}
 use Rattle.ledger.specs.declared.phase.Phase.TheVariants.{InPeriod}
 use Rattle.ledger.specs.Lines.{judge_lines}
 use Rattle.ledger.specs.Refusals.{number}
@@ -44,7 +44,7 @@ held_by o = map (λ r. r.held) o.state.records
 
 -- a reading of a new ledger that has these records
 abbrev pub read : List Record → ℕ → Outcome
-read rs units = reading (opened 1 false 4 rs) units
+read rs units = reading (opened (record { smallest = 1; farm = false }) 4 rs) units
 
 -- the first period after its reading, with the period's applied credits and fees
 abbrev pub in_period : List Record → ℕ → ℕ → State

@@ -1,17 +1,19 @@
-// Why a run is declined.
+//! Why a run is declined.
 ghost use Rattle.std.specs.Prelude.{◌≡◌, Some};
 ghost use Rattle.ledger_run.specs.declared.refusal.RunRefusal.TheVariants as declined;
 ghost use Rattle.ledger_run.specs.Refusals.{run_reason};
 
-use ledger::call::Refusal;
+use ledger::refusal::Refusal;
 use std::alloc::AllocError;
 use std::error::Error;
 use std::fmt;
 
+/// Why a run is declined; ledger and book are as they were.
 #[derive(Clone, Copy, PartialEq, Eq, Debug)]
 pub enum RunRefusal {
+    /// the ledger is not opened, with 9 or 10
     NotOpened(Refusal),
-    // there is no memory for the answers
+    /// there is no memory for the answers
     NoMemory,
 }
 

@@ -1,8 +1,9 @@
 use Rattle.std.proofs.Common.{◌+◌, ◌++◌, drop, vec_items, sym, ap, ◌∙◌, arith}
+use Rattle.accounts.proofs.Leaving.{kept_on}
 use Rattle.ledger.specs.Steps.{open_leaves, opened}
 use Rattle.ledger.specs.Views.{view}
 use Rattle.ledger_run.specs.Laws.{answers}
-use Rattle.ledger_run.proofs.Runs.{accepted, ran}
+use Rattle.ledger_run.proofs.Runs.{accepted, ran, runs_lawfully}
 use Rattle.ledger_run.proofs.Turns.{after_more, answers_more, after_all, answers_all}
 use Rattle.ledger_run.proofs.run.run.Goals as goal
 
@@ -18,23 +19,18 @@ loop-call-preserved g c =
     let taken = c.loop-call-test.true in (
       λ s.
           let h = c.loop-call.invariant.0 s in
-          let p = c.perform.ensures.kept h.0.stays in
-          let e = c.perform.ensures.steps h.0.stays in (
-            record {
-              stays = p.stays;
-              same_room = p.same_room ∙ h.0.same_room;
-              same_side = p.same_side ∙ h.0.same_side;
-              same_loans = p.same_loans ∙ h.0.same_loans;
-            },
+          let p = c.perform.ensures.keeps h.0.stays in
+          let e = c.perform.ensures.performs h.0.stays in (
+            kept_on b.rest_follows h.0 p,
             after_more worth calls i here there answer c.call-item.result taken c.call-item.is e ∙ h.1,
-            ap (λ xs. xs ++ answers worth there (drop (i + 1) calls)) c.push_reserved.ensures.items ∙ answers_more worth calls i here there answer c.call-item.result (vec_items c.loop-call.said) taken c.call-item.is e ∙ h.2,
+            ap (λ xs. xs ++ answers worth there (drop (i + 1) calls)) c.push_reserved.ensures.items ∙ answers_more worth calls i here there answer c.call-item.result (vec_items c.loop-call.answers) taken c.call-item.is e ∙ h.2,
           ),
       omega (arith, c.push_reserved.ensures.len, c.loop-call.invariant.1),
       omega (arith, c.push_reserved.ensures.capacity, c.loop-call.invariant.2),
     )
 
-pub returns-clause-ran : goal.returns-clause-ran
-returns-clause-ran g c s =
+pub returns-clause-runs : goal.returns-clause-runs
+returns-clause-runs g c s =
     let b = g.B.AccountBook in
     let worth = g.M.CreditMethod.worth in
     let calls = c.args.calls.now in
@@ -42,9 +38,18 @@ returns-clause-ran g c s =
     let rs = (b.contents c.args.book.now).records in
     let room = (b.contents c.args.book.now).room in
     let before = view c.args.ledger.now (b.contents c.args.book.now) in
-    let start = opened c.args.project.smallest c.args.project.farm room rs in
+    let start = opened c.args.project room rs in
     let end = view c.loop-call.ledger (b.contents c.loop-call.book) in
     let done = c.loop-call-test.false in
     let h = c.loop-call.invariant.0 s in
     let judged = accepted _ _ (c.in_ok-open.ensures.answer s) in
-    (judged, ran worth g.met.M.CreditMethod.lawful c.args.project.smallest c.args.project.farm room rs calls _ _ _ (b.proper c.args.book.now s).bounded judged (c.open.ensures.state s ∙ ap (λ j. open_leaves j before start) judged) (sym (after_all worth calls i end done) ∙ h.1) (sym (answers_all worth calls i end (vec_items c.loop-call.said) done) ∙ h.2))
+    (judged, ran worth g.met.M.CreditMethod.lawful c.args.project room rs calls _ _ _ (b.proper c.args.book.now s).bounded judged (c.open.ensures.state s ∙ ap (λ j. open_leaves j before start) judged) (sym (after_all worth calls i end done) ∙ h.1) (sym (answers_all worth calls i end (vec_items c.loop-call.answers) done) ∙ h.2))
+
+pub returns-clause-law : goal.returns-clause-law
+returns-clause-law g c = runs_lawfully g.M.CreditMethod.worth g.met.M.CreditMethod.lawful
+
+pub returns-in_err-open-clause-law : goal.returns-in_err-open-clause-law
+returns-in_err-open-clause-law g c = runs_lawfully g.M.CreditMethod.worth g.met.M.CreditMethod.lawful
+
+pub returns-in_err-answers-clause-law : goal.returns-in_err-answers-clause-law
+returns-in_err-answers-clause-law g c = runs_lawfully g.M.CreditMethod.worth g.met.M.CreditMethod.lawful

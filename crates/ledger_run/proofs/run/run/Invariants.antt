@@ -1,5 +1,6 @@
 use Rattle.std.proofs.Common.{◌≡◌, ◌≤◌, ◌++◌, length, drop, vec_items, vec_len, vec_capacity}
-use Rattle.ledger.specs.Views.{Kept, view}
+use Rattle.accounts.specs.Books.{Kept}
+use Rattle.ledger.specs.Views.{view}
 use Rattle.ledger_run.specs.Laws.{after, answers}
 use Rattle.ledger_run.proofs.run.run.Given as goal
 
@@ -11,6 +12,6 @@ invariant-loop-call g l =
     let start = view l.initial.ledger (b.contents l.initial.book) in
     let here = view l.ledger (b.contents l.book) in
     let left = drop l.call-index l.calls in
-    (b.sound l.initial.book → Kept (b.sound l.book) (b.contents l.book) (b.contents l.initial.book) × (after worth here left ≡ after worth start l.calls) × (vec_items l.said ++ answers worth here left ≡ answers worth start l.calls))
-    × (vec_len l.said ≡ l.call-index)
-    × (length l.calls ≤ vec_capacity l.said)
+    (b.sound l.initial.book → Kept b.sound b.contents b.same_rest l.initial.book l.book × (after worth here left ≡ after worth start l.calls) × (vec_items l.answers ++ answers worth here left ≡ answers worth start l.calls))
+    × (vec_len l.answers ≡ l.call-index)
+    × (length l.calls ≤ vec_capacity l.answers)
