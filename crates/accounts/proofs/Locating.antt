@@ -49,7 +49,7 @@ located a i room rs r p e n =
     let told = found_told a 0 i rs r here n in
     let whose = found_account a rs r told in
     record {
-      told = told;
+      found = told;
       ranged = every_nth in_range rs i r p.ranged n;
       whose = whose;
       fitting = λ new w k. suits_same rs i new r n (whose ∙ sym w) k;

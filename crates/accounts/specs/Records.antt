@@ -29,7 +29,7 @@ holding units r = record r { held = units }
 -- the record of an account that a search found at a place: another record of the account in range suits the place, and
 -- replaces the account's record there
 pub record Located (rs : List Record) (account place : ℕ) (r : Record) : Type 0 where
-  pub told : record_of account rs ≡ Some r
+  pub found : record_of account rs ≡ Some r
   pub ranged : in_range r ≡ true
   pub whose : r.account ≡ account
   pub fitting : (new : Record) → new.account ≡ account → in_range new ≡ true → suits rs place new ≡ true

@@ -74,5 +74,6 @@ pub trait AccountBook {
     /// is past the last, the record is out of range, or the place has another account.
     fn replace(&mut self, place: usize, new: Record) -> bool
         ensures answer { sound self.old → result ≡ suits (contents self.old).records place new }
-        ensures after { Leaves sound contents same_rest self.old self.new (λ rs. replaced result rs place new) };
+        ensures after { Leaves sound contents same_rest self.old self.new
+            (λ rs. replaced result rs place new) };
 }

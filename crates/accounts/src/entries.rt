@@ -13,8 +13,10 @@ use crate::record::Record;
 /// The record at a place, counted from 0; none past the last. A record out of range, which no proper book has, is not
 /// told.
 pub fn entry_at<B: AccountBook>(book: &B, place: usize) -> Option<Entry>
-    ensures told { B.sound book.now → option_map (λ x. x.holder) result ≡ slice_get (B.contents book.now).records place }
-    ensures located { (account : ℕ) → B.sound book.now → find account (accounts (B.contents book.now).records) ≡ Some place
+    ensures value { B.sound book.now
+        → option_map (λ x. x.holder) result ≡ slice_get (B.contents book.now).records place }
+    ensures located { (account : ℕ) → B.sound book.now
+        → find account (accounts (B.contents book.now).records) ≡ Some place
         → MatchOption result ⊥ (λ x. Located (B.contents book.now).records account x.place x.holder) }
 {
     match book.get(place) {

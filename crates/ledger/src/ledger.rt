@@ -93,7 +93,8 @@ impl Ledger {
 
     /// A place for a ledger, as if opened for a project that needs ten lines, without the farm mark.
     pub fn new() -> Ledger
-        ensures { (b : Contents) → view result b ≡ opened (record { smallest = 10; farm = false }) b.room b.records }
+        ensures { (b : Contents) → view result b
+            ≡ opened (record { smallest = 10; farm = false }) b.room b.records }
     {
         Ledger::opened(Project {
             smallest: 10,
@@ -116,7 +117,8 @@ impl Ledger {
 
     /// Opens a ledger in its place, on a book with no records. Refused, with 9 or 10, the place stays as it was.
     pub fn open<B: AccountBook>(&mut self, project: Project, book: &B) -> Result<(), Refusal>
-        ensures answer { B.sound book.now → result ≡ open_answer (open_refusal project (B.contents book.now)) }
+        ensures answer { B.sound book.now
+            → result ≡ open_answer (open_refusal project (B.contents book.now)) }
         ensures state { B.sound book.now → Opens project (B.contents book.now) self.old self.new }
     {
         if project.smallest != 1 && project.smallest != 10 {

@@ -61,7 +61,8 @@ impl Period {
 
     /// The phase with one bill more.
     pub(crate) fn raised(self, bill: &Bill) -> Phase
-        requires { self.applied + counted bill.now.account.holder.kind bill.now.posting.applied ≤ most_applied }
+        requires { self.applied + counted bill.now.account.holder.kind bill.now.posting.applied
+            ≤ most_applied }
         ensures { result ≡ raised self.applied self.fees bill.now.account.holder bill.now.posting }
     {
         Phase::InPeriod {

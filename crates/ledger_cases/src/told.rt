@@ -1,5 +1,5 @@
 // What a case tells: a fact, or a refusal by its number and place.
-use ledger::call::{Done, Posting, Settlement};
+use ledger::answer::{Done, Posting, Settlement};
 use base::refusal::Numbered;
 use std::fmt;
 

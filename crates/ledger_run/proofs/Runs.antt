@@ -84,4 +84,4 @@ module _ {M : Type 0} (worth : M → ℕ → ℕ → ℕ) (lawful : (m : M) (k :
       let ended = ends ∙ ap (λ s. after worth s calls) starts in
       let told = tells ∙ ap (λ s. answers worth s calls) starts in
       let none = empty project.smallest rs judged in
-      record { performed = ended; told = told; lawful = rw (ended, told, none) (runs_lawfully project room few calls) }
+      record { left = ended; gives = told; lawful = rw (ended, told, none) (runs_lawfully project room few calls) }

@@ -91,6 +91,6 @@ module _ {M : Type 0} (worth : M → ℕ → ℕ → ℕ) where
   -- a run from a state at which a ledger was opened: the state that it leaves and its answers are those of performing
   -- the calls one by one, and they keep the law
   pub record Ran (start : State) (calls : List (Call M)) (answered : List (Result Done Refusal)) (end : State) : Type 0 where
-    pub performed : end ≡ after worth start calls
-    pub told : answered ≡ answers worth start calls
+    pub left : end ≡ after worth start calls
+    pub gives : answered ≡ answers worth start calls
     pub lawful : LawfulRun calls answered end

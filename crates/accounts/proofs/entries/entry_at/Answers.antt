@@ -6,8 +6,8 @@ pub returns-in-Some-clause-located : goal.returns-in-Some-clause-located
 returns-in-Some-clause-located g c a s e =
     located a c.args.place _ _ c.in-Some.holder (g.B.AccountBook.proper c.args.book.now s) e (sym (c.in-Some.ensures s))
 
-pub returns-in_default-clause-told : goal.returns-in_default-clause-told
-returns-in_default-clause-told g c s =
+pub returns-in_default-clause-value : goal.returns-in_default-clause-value
+returns-in_default-clause-value g c s =
     absurd (in_book c.args.place _ _ c.in-Some.holder (g.B.AccountBook.proper c.args.book.now s) (sym (c.in-Some.ensures s)) c.if-in_range.ensures)
 
 pub returns-in_default-clause-located : goal.returns-in_default-clause-located
