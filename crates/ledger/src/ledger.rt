@@ -4,6 +4,7 @@ ghost use Rattle.base.specs.Limits.{most_periods};
 ghost use Rattle.ledger.specs.Limits.{most_applied, most_read};
 ghost use Rattle.ledger.specs.Phases.{applied_in, fees_in, open_periods};
 
+use super::account::open_entry;
 use super::answer::{Done, Settlement};
 use super::call::Call;
 use super::enrolment::{clear_percentages, enter_lines};
@@ -13,9 +14,8 @@ use super::period::Period;
 use super::phase::Phase;
 use super::refusal::Refusal;
 use accounts::book::AccountBook;
-use accounts::entries::find_entry;
 use accounts::project::Project;
-use accounts::record::{Line, Record, State};
+use accounts::record::{Line, Record};
 use base::limits::{MOST_LINES, MOST_PERIODS, MOST_READING, MOST_UNITS};
 use crediting::method::CreditMethod;
 use sharing::reading::Reading;
@@ -315,10 +315,7 @@ impl Ledger {
         ensures performs { Performs B.sound B.contents self.old self.new book.old book.new result
             (λ s. disburse s account units) }
     {
-        let entry = find_entry(book, account).ok_or(Refusal::NoOpenAccount)?;
-        if entry.holder.state == State::Closed {
-            return Err(Refusal::NoOpenAccount);
-        }
+        let entry = open_entry(book, account)?;
         if units == 0 || units > self.bank {
             return Err(Refusal::NotInBank);
         }

@@ -2,6 +2,7 @@
 //! book.
 #![tactic(auto)]
 
+mod account;
 pub mod answer;
 mod bill;
 pub mod call;

@@ -6,13 +6,12 @@ ghost use Rattle.ledger.specs.Limits.{most_applied};
 ghost use Rattle.ledger.specs.Rules.{counted};
 ghost use Rattle.ledger.specs.Steps.{raised};
 
+use super::account::open_entry;
 use super::bill::Bill;
 use super::limits::MOST_APPLIED;
 use super::phase::Phase;
 use super::refusal::Refusal;
 use accounts::book::AccountBook;
-use accounts::entries::find_entry;
-use accounts::record::State;
 use base::limits::MOST_BILL;
 use crediting::method::CreditMethod;
 
@@ -45,10 +44,7 @@ impl Period {
         if cents > MOST_BILL {
             return Err(Refusal::BillTooLarge);
         }
-        let entry = find_entry(book, account).ok_or(Refusal::NoOpenAccount)?;
-        if entry.holder.state == State::Closed {
-            return Err(Refusal::NoOpenAccount);
-        }
+        let entry = open_entry(book, account)?;
         if entry.holder.last == self.number {
             return Err(Refusal::BilledAlready);
         }

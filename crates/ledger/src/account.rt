@@ -1,0 +1,19 @@
+//! The record of an account that is open.
+ghost use Rattle.ledger.specs.Accepting.{OpenAccount};
+
+use super::refusal::Refusal;
+use accounts::book::AccountBook;
+use accounts::entries::find_entry;
+use accounts::entry::Entry;
+use accounts::record::State;
+
+/// The record of an open account and its place, or that there is no open account of this number.
+pub(crate) fn open_entry<B: AccountBook>(book: &B, account: u64) -> Result<Entry, Refusal>
+    ensures { B.sound book.now → OpenAccount (B.contents book.now).records account result }
+{
+    let entry = find_entry(book, account).ok_or(Refusal::NoOpenAccount)?;
+    match entry.holder.state {
+        State::Open => Ok(entry),
+        State::Closed => Err(Refusal::NoOpenAccount),
+    }
+}
