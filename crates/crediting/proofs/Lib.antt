@@ -1,1 +1,3 @@
+pub mod Fewest
+pub mod Rounding
 pub mod Applying

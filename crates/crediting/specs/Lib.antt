@@ -1,6 +1,6 @@
+pub mod Limits
 pub mod Ranges
 pub mod Credits
 pub mod Worths
 pub mod Refusals
-pub mod Ceilings
-pub mod Fewest
+pub mod Lawfulness

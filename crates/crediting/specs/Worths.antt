@@ -1,5 +1,6 @@
 -- What units are worth by each method.
 use Rattle.std.specs.Prelude.{◌≡◌, ℕ, ◌-◌, ◌*◌, ◌/◌, ◌<◌, ◌≤◌, Bool, ◌&&◌, List, length, nat_le, slice_index}
+use Rattle.crediting.specs.Limits.{one_cent, most_rate, rate_count}
 
 -- The mark of a method's unit is a letter: `C` for cents, `K` for kilowatt-hours.
 abbrev pub cents_mark : ℕ
@@ -12,18 +13,20 @@ kilowatt_hours_mark = 75
 abbrev pub cents : ℕ → ℕ → ℕ
 cents k u = u
 
--- Volumetric: a rate is 1 to 1,000,000 ten-thousandths of a cent for a kilowatt-hour.
-abbrev pub fair : ℕ → Bool
-fair r = nat_le 1 r && nat_le r 1_000_000
+-- Volumetric: a rate is a number of ten-thousandths of a cent for a kilowatt-hour, from 1 on.
+abbrev pub rate_in_range : ℕ → Bool
+rate_in_range r = nat_le 1 r && nat_le r most_rate
 
--- Sixteen rates, each in range.
-abbrev pub Fair : List ℕ → Type 0
-Fair rs = (length rs ≡ 16) × ((i : ℕ) → i < 16 → (1 ≤ slice_index rs i) × (slice_index rs i ≤ 1_000_000))
+-- One rate for each class, each in range.
+abbrev pub RatesInRange : List ℕ → Type 0
+RatesInRange rs =
+    (length rs ≡ rate_count)
+    × ((i : ℕ) → i < rate_count → (1 ≤ slice_index rs i) × (slice_index rs i ≤ most_rate))
 
 -- The rate of a class; the first is that of class 1.
 abbrev pub rate_of : List ℕ → ℕ → ℕ
 rate_of rs k = slice_index rs (k - 1)
 
--- Units times the rate of their class, over 10,000 and rounded down.
+-- Units times the rate of their class, in cents and rounded down.
 abbrev pub by_rates : List ℕ → ℕ → ℕ → ℕ
-by_rates rs k u = u * rate_of rs k / 10_000
+by_rates rs k u = u * rate_of rs k / one_cent

@@ -1,26 +1,24 @@
-// Sixteen rates, one for each service class, and why a list of rates is refused.
-ghost use Rattle.crediting.specs.Refusals.{OnePlace, Told, judged, number, place as place_of, reason};
-ghost use Rattle.crediting.specs.Worths.{fair};
+//! The rates of a volumetric method, one for each service class, and why a list of rates is refused.
+ghost use Rattle.crediting.specs.Refusals.{Judges, OnePlace, judged, number, place as place_of, reason};
+ghost use Rattle.crediting.specs.Worths.{rate_in_range};
 ghost use Rattle.std.specs.Prelude.{◌≡◌, not, position, Some};
 ghost use Rattle.std.proofs.Common.{rules};
 
-use super::credit::CLASSES;
+use super::limits::{MOST_RATE, RATES};
 use base::refusal::Numbered;
 use std::error::Error;
 use std::fmt;
 
-// one for each service class
-pub const RATES: usize = CLASSES as usize;
-
-// in ten-thousandths of a cent for a kilowatt-hour
-pub const MOST_RATE: u32 = 1_000_000;
-
+/// Why a list of rates is refused. Both cases have the number 8.
 #[derive(Clone, Copy, PartialEq, Eq, Debug)]
 pub enum RatesRefusal {
-    // there are not sixteen rates
+    /// There are not [`RATES`] rates.
     WrongCount,
-    // the first rate outside 1 to 1,000,000 stands at this place, counted from 0
-    OutOfRange { place: usize },
+    /// A rate is not 1 to [`MOST_RATE`].
+    OutOfRange {
+        /// Where the first such rate stands in the list, counted from 0.
+        place: usize,
+    },
 }
 
 impl fmt::Display for RatesRefusal {
@@ -60,30 +58,31 @@ impl Numbered for RatesRefusal {
     }
 }
 
-fn is_fair(rate: u32) -> bool
-    ensures { result ≡ fair rate }
+fn rate_in_range(rate: u32) -> bool
+    ensures { result ≡ rate_in_range rate }
 {
     1 <= rate && rate <= MOST_RATE
 }
 
 // The place of the first rate that is out of range.
-fn first_unfair(rates: &[u32]) -> Option<usize>
-    ensures { result ≡ position (λ r. not (fair r)) rates.now }
+fn first_out_of_range(rates: &[u32]) -> Option<usize>
+    ensures { result ≡ position (λ r. not (rate_in_range r)) rates.now }
 {
-    rates.iter().position(|rate| !is_fair(*rate))
+    rates.iter().position(|rate| !rate_in_range(*rate))
 }
 
-// Whether these can be the rates of a method, or why not.
+/// Whether these can be the rates of a method, in ten-thousandths of a cent for a kilowatt-hour from class 1 on: there
+/// is one for each class, and each is 1 to [`MOST_RATE`]. A wrong number of rates is refused before any rate is looked
+/// at, and else the first rate out of range.
 pub fn judge(rates: &[u32]) -> Result<(), RatesRefusal>
     ensures answer { result ≡ judged rates.now }
-    ensures told { Told rates.now result }
-    ensures one { OnePlace rates.now }
+    ensures meaning { Judges rates.now result }
+    ensures one_place { OnePlace rates.now }
 {
     if rates.len() != RATES {
         return Err(RatesRefusal::WrongCount);
     }
-    // a place that is found is the fault: `ok_or` would be the wrong way round
-    match first_unfair(rates) {
+    match first_out_of_range(rates) {
         Some(place) => Err(RatesRefusal::OutOfRange { place }),
         None => Ok(()),
     }

@@ -1,10 +1,11 @@
-// Value Stack: a unit is a cent.
-ghost use Rattle.crediting.specs.Ceilings.{cents_lawful};
+//! Value Stack crediting: a unit is a cent.
+ghost use Rattle.crediting.specs.Lawfulness.{cents_lawful};
 ghost use Rattle.crediting.specs.Worths.{cents, cents_mark};
 
 use super::credit::{Credit, applied_credit, has_worth};
 use super::method::CreditMethod;
 
+/// The method whose units are cents, in every service class.
 #[derive(Clone, Copy, PartialEq, Eq, Debug)]
 pub struct ValueStack;
 

@@ -1,5 +1,6 @@
-use Rattle.crediting.specs.Ceilings.{cents_lawful, used_cents}
-use Rattle.crediting.specs.Fewest.{meant}
+use Rattle.crediting.proofs.Fewest.{meant}
+use Rattle.crediting.proofs.Rounding.{used_cents}
+use Rattle.crediting.specs.Lawfulness.{cents_lawful}
 use Rattle.crediting.specs.Worths.{cents}
 use Rattle.crediting.proofs.value_stack.ValueStackCreditMethod.credit.Goals as goal
 

@@ -1,5 +1,5 @@
-use Rattle.crediting.specs.Ceilings.{class_rate, rate_lawful}
-use Rattle.crediting.specs.Fewest.{meant}
+use Rattle.crediting.proofs.Fewest.{meant}
+use Rattle.crediting.specs.Lawfulness.{by_rates_lawful}
 use Rattle.crediting.specs.Worths.{by_rates}
 use Rattle.crediting.proofs.volumetric.VolumetricCreditMethod.credit.Goals as goal
 
@@ -7,5 +7,6 @@ pub returns : goal.returns
 returns c =
     let s = c.args.self.now in
     let applied = c.applied_credit-applied.ensures (by_rates s.rates) c.worth.ensures.value in
-    let m = meant (by_rates s.rates) c.args.class c.args.units c.args.bill _ _ (λ is. rate_lawful _ (class_rate s.rates c.args.class s.fair is).1) applied c.used-used.ensures in
-    record { applied = applied; used = c.used-used.ensures; within = m.within; meaning = m.meaning }
+    let used = c.units_used-used.ensures in
+    let m = meant (by_rates s.rates) c.args.class c.args.units c.args.bill _ _ (by_rates_lawful s.rates c.args.class s.in_range) applied used in
+    record { applied = applied; used = used; within = m.within; meaning = m.meaning }
