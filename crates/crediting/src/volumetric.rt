@@ -12,8 +12,8 @@ use super::limits::{ONE_CENT, RATES};
 use super::method::CreditMethod;
 use super::rates::{RatesRefusal, judge};
 
-/// The method whose units are kilowatt-hours. It has a rate for each service class, 1 to 1,000,000 ten-thousandths of a
-/// cent.
+/// The method whose units are kilowatt-hours. It has a rate for each service class, in ten-thousandths of a cent: 1 to
+/// [`MOST_RATE`](super::limits::MOST_RATE).
 #[derive(Clone, Copy, Debug)]
 pub struct Volumetric {
     rates: [u32; RATES],
