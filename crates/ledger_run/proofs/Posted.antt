@@ -3,7 +3,7 @@ use Rattle.std.proofs.Common.{◌≡◌, ℕ, ◌+◌, ◌-◌, ◌*◌, ◌≤�
 use Rattle.base.specs.Limits.{most_bill, most_units}
 use Rattle.accounts.specs.declared.record.Record.{Record}
 use Rattle.accounts.proofs.Found.{found_within}
-use Rattle.crediting.specs.Fewest.{meant}
+use Rattle.crediting.proofs.Fewest.{meant}
 use Rattle.crediting.specs.Credits.{Credited, Lawful}
 use Rattle.crediting.specs.Ranges.{is_class}
 use Rattle.ledger.specs.declared.answer.Posting.{Posting}

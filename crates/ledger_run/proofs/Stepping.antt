@@ -10,7 +10,7 @@ use Rattle.accounts.specs.declared.record.Line.{Line}
 use Rattle.accounts.specs.declared.record.Record.{Record}
 use Rattle.accounts.specs.Records.{is_closed, record_of}
 use Rattle.accounts.proofs.Found.{found_within}
-use Rattle.crediting.specs.Fewest.{applied_within}
+use Rattle.crediting.proofs.Fewest.{applied_within}
 use Rattle.sharing.specs.Shares.{foreign_to_reading, share, shares}
 use Rattle.sharing.proofs.Totals.{shares_within, sum_by_plus}
 use Rattle.ledger.specs.declared.call.Call.{Call}
