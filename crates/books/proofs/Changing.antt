@@ -1,26 +1,19 @@
 -- Adding and replacing in an image that opens.
-use Rattle.std.proofs.Common.{◌≡◌, ℕ, ◌+◌, ◌-◌, ◌/◌, ◌^◌, ◌<◌, ◌≤◌, min, true, List, [], ◌∷◌, ◌++◌, length, set, is_some, Some, ap, ◌∙◌, ⊎_elim, add-one, arith, below_more}
+use Rattle.std.proofs.Common.{◌≡◌, ℕ, ◌+◌, ◌-◌, ◌/◌, ◌^◌, ◌<◌, ◌≤◌, min, true, List, [], ◌∷◌, ◌++◌, length, set, drop, is_some, Some, ap, ◌∙◌, ⊎_elim, add-one, arith, below_more}
 use Rattle.std.proofs.lemmas.Bool.{cases_eq}
-use Rattle.std.specs.Int.{w32, to_le_bytes, from_le_bytes}
+use Rattle.std.specs.Int.{w32, from_le_bytes}
 use Rattle.accounts.specs.declared.record.Record.{Record}
 use Rattle.accounts.specs.Ranges.{in_range}
-use Rattle.accounts.specs.Books.{accounts, distinct, takes, suits}
+use Rattle.accounts.specs.Books.{accounts, distinct, Proper, takes, suits}
 use Rattle.accounts.proofs.Answering.{takes_parts, suits_parts}
 use Rattle.accounts.proofs.Keeping.{proper_add, proper_replace}
-use Rattle.books.specs.Bytes.{written}
-use Rattle.books.specs.Codec.{encoded, decoded}
+use Rattle.books.specs.Codec.{decoded}
 use Rattle.books.proofs.Inverse.{decoded_encoded}
-use Rattle.books.specs.Images.{capacity_of, start_of, slot, held}
+use Rattle.books.specs.Images.{capacity_of, start_of, slot, held, with_record, with_added}
 use Rattle.books.specs.Reading.{Reads}
 use Rattle.books.proofs.ImagePlaces.{held_more}
 use Rattle.books.proofs.Opening.{Open, proper_open, open_of, reads_open}
-use Rattle.books.proofs.Writing.{held_same, legible_same, held_set, length_put, slot_put, slot_other, count_put, length_count, slot_count, count_count}
-
-abbrev pub with_record : ℕ → Record → List ℕ → List ℕ
-with_record i r bs = written (start_of i) (encoded r) bs
-
-abbrev pub with_added : ℕ → Record → List ℕ → List ℕ
-with_added n r bs = written 0 (to_le_bytes w32 (n + 1)) (with_record n r bs)
+use Rattle.books.proofs.Writing.{held_same, legible_same, held_set, length_put, slot_put, slot_other, past_put, count_put, length_count, slot_count, past_count, count_count}
 
 module _ (bs : List ℕ) (n room : ℕ) (o : Open bs n room) (r : Record) (ok : in_range r ≡ true) where
   module _ (h : n < room) (t : takes (held n bs) room r ≡ true) where
@@ -47,6 +40,11 @@ module _ (bs : List ℕ) (n room : ℕ) (o : Open bs n room) (r : Record) (ok : 
         ap (λ k. held k (with_added n r bs)) (add-one n)
         ∙ (held_more (with_added n r bs) n r last ∙ ap (λ rs. rs ++ r ∷ []) (held_same n bs (with_added n r bs) before))
 
+    past_added : drop (start_of (n + 1)) (with_added n r bs) ≡ drop (start_of (n + 1)) bs
+    past_added =
+        past_count (with_record n r bs) long (n + 1) small (start_of (n + 1)) (omega arith)
+        ∙ past_put bs n within r (start_of (n + 1)) (omega arith)
+
     pub open_added : Open (with_added n r bs) (n + 1) room
     open_added =
         let e₁ = length_put bs n within r in
@@ -72,6 +70,9 @@ module _ (bs : List ℕ) (n room : ℕ) (o : Open bs n room) (r : Record) (ok : 
     pub list_replaced : held n (with_record i r bs) ≡ set (held n bs) i r
     list_replaced = held_set n i bs (with_record i r bs) r h o.legible put_there (slot_other bs i inside r)
 
+    past_replaced : drop (start_of n) (with_record i r bs) ≡ drop (start_of n) bs
+    past_replaced = past_put bs i inside r (start_of n) (omega arith)
+
     pub open_replaced : Open (with_record i r bs) n room
     open_replaced =
         let e = length_put bs i inside r in
@@ -90,23 +91,40 @@ module _ (bs : List ℕ) (n room : ℕ) (o : Open bs n room) (r : Record) (ok : 
           apart = ap (λ rs. distinct (accounts rs)) list_replaced ∙ p.apart;
         }
 
+-- what an image of so many records is after a change: a book's still, of this list, and as it was behind the last record
+pub record Changed (bs bs' : List ℕ) (n room : ℕ) (then : List Record) : Type 0 where
+  pub reads : Reads bs' n room
+  pub list : held n bs' ≡ then
+  pub past : drop (start_of n) bs' ≡ drop (start_of n) bs
+
 -- a book's image with a record added, and with one replaced
 module _ (bs : List ℕ) (n room : ℕ) (s : Reads bs n room) (r : Record) (bs' : List ℕ) where
-  pub reads_added : takes (held n bs) room r ≡ true → bs' ≡ with_added n r bs → Reads bs' (n + 1) room × (held (n + 1) bs' ≡ held n bs ++ r ∷ [])
-  reads_added t e =
+  pub record_added : takes (held n bs) room r ≡ true → bs' ≡ with_added n r bs → Changed bs bs' (n + 1) room (held n bs ++ r ∷ [])
+  record_added t e =
       let w = s.whole in
       let p = takes_parts (held n bs) room r t in
-      let o = open_of bs n room s.same_count s.same_room (omega arith) in (
-        rw e (reads_open (with_added n r bs) (n + 1) room (open_added bs n room o r p.1 (omega arith) t)),
-        ap (held (n + 1)) e ∙ list_added bs n room o r p.1 (omega arith) t,
-      )
+      let o = open_of bs n room s.same_count s.same_room (omega arith) in
+      record {
+        reads = rw e (reads_open (with_added n r bs) (n + 1) room (open_added bs n room o r p.1 (omega arith) t));
+        list = ap (held (n + 1)) e ∙ list_added bs n room o r p.1 (omega arith) t;
+        past = ap (drop (start_of (n + 1))) e ∙ past_added bs n room o r p.1 (omega arith) t;
+      }
 
-  pub reads_replaced : (i : ℕ) → suits (held n bs) i r ≡ true → bs' ≡ with_record i r bs → Reads bs' n room × (held n bs' ≡ set (held n bs) i r)
-  reads_replaced i t e =
+  pub record_replaced : (i : ℕ) → suits (held n bs) i r ≡ true → bs' ≡ with_record i r bs → Changed bs bs' n room (set (held n bs) i r)
+  record_replaced i t e =
       let w = s.whole in
       let f = s.proper.fits in
       let p = suits_parts (held n bs) i r t in
-      let o = open_of bs n room s.same_count s.same_room (omega arith) in (
-        rw e (reads_open (with_record i r bs) n room (open_replaced bs n room o r p.1 i (omega arith) t)),
-        ap (held n) e ∙ list_replaced bs n room o r p.1 i (omega arith) t,
-      )
+      let o = open_of bs n room s.same_count s.same_room (omega arith) in
+      record {
+        reads = rw e (reads_open (with_record i r bs) n room (open_replaced bs n room o r p.1 i (omega arith) t));
+        list = ap (held n) e ∙ list_replaced bs n room o r p.1 i (omega arith) t;
+        past = ap (drop (start_of n)) e ∙ past_replaced bs n room o r p.1 i (omega arith) t;
+      }
+
+-- a book that takes a record, or has one at a place, has room
+pub room_takes : (rs : List Record) (room : ℕ) (r : Record) → takes rs room r ≡ true → room ≡ 0 → ⊥
+room_takes rs room r t e = let p = takes_parts rs room r t in omega arith
+
+pub room_suits : (rs : List Record) (room i : ℕ) (r : Record) → Proper rs room → suits rs i r ≡ true → room ≡ 0 → ⊥
+room_suits rs room i r p t e = let s = suits_parts rs i r t in let f = p.fits in omega arith

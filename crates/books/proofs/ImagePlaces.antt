@@ -15,7 +15,7 @@ use Rattle.accounts.proofs.Keeping.{every_push}
 use Rattle.books.specs.Codec.{decoded}
 use Rattle.books.proofs.Inverse.{holds_decoded, in_range_decoded}
 use Rattle.books.specs.Images.{capacity_of, slot, slots_in, record_at, held, account_in}
-use Rattle.books.specs.Refusals.{unfit_after, unfit, first_unfit}
+use Rattle.books.specs.ImageRefusals.{unfit_after, unfit, first_unfit}
 use Rattle.books.specs.Reading.{Legible}
 use Rattle.books.proofs.Slots.{first_slots, record_here}
 

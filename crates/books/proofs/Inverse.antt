@@ -148,7 +148,7 @@ holds_decoded bs r =
     (λ _ e. absurd (none-some r e))
 
 -- bytes are below 256 wherever they are read
-below : (xs : List ℕ) → All (λ b. b < 256) xs → (i : ℕ) → get_or xs i 0 < 256
+pub below : (xs : List ℕ) → All (λ b. b < 256) xs → (i : ℕ) → get_or xs i 0 < 256
 below xs small i =
     ⊎_elim (λ h. small i 0 h) (λ h. let e = get_or_past xs i 0 h in omega arith) (cases_lt i (length xs))
 

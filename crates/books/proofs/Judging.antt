@@ -1,12 +1,13 @@
 -- What an image is refused for.
-use Rattle.std.proofs.Common.{◌≡◌, ℕ, ◌≤◌, false, ltb, List, length, Some, Option, ap, ◌∙◌}
+use Rattle.std.proofs.Common.{◌≡◌, ℕ, ◌≤◌, false, ltb, List, length, Some, Option, option_map, ap, ◌∙◌}
 use Rattle.std.proofs.lemmas.Bool.{cond-false, or_parts, or_from, ltb-false, le-ltb}
 use Rattle.books.specs.Images.{count_in, capacity_of}
-use Rattle.books.specs.Refusals.{lacks_room, first_unfit, seventh, open_refusal}
+use Rattle.books.specs.ImageRefusals.{lacks_room, first_unfit, open_refusal}
+use Rattle.books.specs.declared.checks.ImageRefusal.TheVariants.{NoRoom, UnfitRecord}
 
 module _ (bs : List ℕ) where
-  pub judged : lacks_room bs ≡ false → (o : Option ℕ) → first_unfit (count_in bs) 0 bs ≡ o → open_refusal bs ≡ seventh o
-  judged h o e = cond-false (lacks_room bs) (Some (6, 0)) (seventh (first_unfit (count_in bs) 0 bs)) h ∙ ap seventh e
+  pub judged : lacks_room bs ≡ false → (o : Option ℕ) → first_unfit (count_in bs) 0 bs ≡ o → open_refusal bs ≡ option_map UnfitRecord o
+  judged h o e = cond-false (lacks_room bs) (Some NoRoom) (option_map UnfitRecord (first_unfit (count_in bs) 0 bs)) h ∙ ap (option_map UnfitRecord) e
 
   pub room_parts : lacks_room bs ≡ false → (4 ≤ length bs) × (count_in bs ≤ capacity_of bs)
   room_parts h =

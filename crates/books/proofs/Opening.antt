@@ -1,12 +1,14 @@
 -- An image that opens, and the book that it holds.
-use Rattle.std.proofs.Common.{◌≡◌, ℕ, ◌<◌, ◌≤◌, Bool, true, false, cond, List, length, is_some, is_err, Some, None, Ok, Err, Option, Result, sym, refl, ap, ◌∙◌, arith}
+use Rattle.std.proofs.Common.{◌≡◌, ℕ, ◌<◌, ◌≤◌, Bool, true, false, cond, List, length, is_some, is_err, Some, None, Ok, Err, Option, Result, option_map, sym, refl, ap, ◌∙◌, arith}
 use Rattle.std.proofs.lemmas.Bool.{cond_both, cond-true}
 use Rattle.std.proofs.lemmas.Option.{none-some}
+use Rattle.std.specs.Result.{result_err}
 use Rattle.accounts.specs.Books.{accounts, distinct, Proper}
 use Rattle.books.specs.Images.{count_in, capacity_of, held}
-use Rattle.books.specs.Refusals.{told, lacks_room, start_refusal, unfit, first_unfit, seventh, open_refusal}
+use Rattle.books.specs.ImageRefusals.{lacks_room, start_refusal, unfit, first_unfit, open_refusal}
 use Rattle.books.specs.Reading.{Legible, opened_count, opened_room, Reads}
 use Rattle.books.specs.declared.checks.ImageRefusal.{ImageRefusal}
+use Rattle.books.specs.declared.checks.ImageRefusal.TheVariants.{NoRoom, UnfitRecord}
 use Rattle.books.proofs.ImagePlaces.{length_held, every_held, distinct_fit, legible_fit, fit_each, fit_none, none_fit}
 use Rattle.books.proofs.Judging.{judged, room_parts, room_from}
 
@@ -18,9 +20,9 @@ pub record Open (bs : List ℕ) (n room : ℕ) : Type 0 where
   pub legible : Legible n bs
   pub apart : distinct (accounts (held n bs)) ≡ true
 
-seventh_none : (o : Option ℕ) → seventh o ≡ None → o ≡ None
-seventh_none None e = refl
-seventh_none (Some i) e = absurd (none-some (7, i) (sym e))
+unfit_none : (o : Option ℕ) → option_map UnfitRecord o ≡ None → o ≡ None
+unfit_none None e = refl
+unfit_none (Some i) e = absurd (none-some (UnfitRecord i) (sym e))
 
 module _ (bs : List ℕ) where
   pub open_none : (n room : ℕ) → Open bs n room → open_refusal bs ≡ None
@@ -31,11 +33,11 @@ module _ (bs : List ℕ) where
 
   pub none_open : open_refusal bs ≡ None → Open bs (count_in bs) (capacity_of bs)
   none_open e =
-      cond_both (lacks_room bs) (Some (6, 0)) (seventh (first_unfit (count_in bs) 0 bs)) (λ o. o ≡ None → Open bs (count_in bs) (capacity_of bs))
-      (λ _ f. absurd (none-some (6, 0) (sym f)))
+      cond_both (lacks_room bs) (Some NoRoom) (option_map UnfitRecord (first_unfit (count_in bs) 0 bs)) (λ o. o ≡ None → Open bs (count_in bs) (capacity_of bs))
+      (λ _ f. absurd (none-some NoRoom (sym f)))
       (λ h f.
       let p = room_parts bs h in
-      let fit : (j : ℕ) → j < count_in bs → unfit j bs ≡ false = λ j k. none_fit bs (count_in bs) 0 (seventh_none (first_unfit (count_in bs) 0 bs) f) j (omega arith) (omega arith) in
+      let fit : (j : ℕ) → j < count_in bs → unfit j bs ≡ false = λ j k. none_fit bs (count_in bs) 0 (unfit_none (first_unfit (count_in bs) 0 bs) f) j (omega arith) (omega arith) in
       record {
         long = p.0;
         count = refl;
@@ -63,7 +65,7 @@ module _ (bs : List ℕ) where
         bounded = omega arith;
       }
 
-  open_by : (o : Option (ℕ × ℕ)) → open_refusal bs ≡ o → (n room : ℕ) → n ≡ cond (is_some o) 0 (count_in bs) → room ≡ cond (is_some o) 0 (capacity_of bs) → 0 < room → Open bs n room
+  open_by : (o : Option ImageRefusal) → open_refusal bs ≡ o → (n room : ℕ) → n ≡ cond (is_some o) 0 (count_in bs) → room ≡ cond (is_some o) 0 (capacity_of bs) → 0 < room → Open bs n room
   open_by None e n room a b h = rw (a, b) (none_open e)
   open_by (Some x) e n room a b h = absurd (omega arith)
 
@@ -71,7 +73,7 @@ module _ (bs : List ℕ) where
   pub open_of : (n room : ℕ) → n ≡ opened_count bs → room ≡ opened_room bs → 0 < room → Open bs n room
   open_of n room a b h = open_by (open_refusal bs) refl n room a b h
 
-  legible_by : (o : Option (ℕ × ℕ)) → open_refusal bs ≡ o → (n : ℕ) → n ≡ cond (is_some o) 0 (count_in bs) → Legible n bs × (n ≤ capacity_of bs)
+  legible_by : (o : Option ImageRefusal) → open_refusal bs ≡ o → (n : ℕ) → n ≡ cond (is_some o) 0 (count_in bs) → Legible n bs × (n ≤ capacity_of bs)
   legible_by None e n a = let p = none_open e in rw a (p.legible, p.fits)
   legible_by (Some x) e n a = ((λ i h. absurd (omega arith)), omega arith)
 
@@ -79,15 +81,15 @@ module _ (bs : List ℕ) where
   legible_opened n a = legible_by (open_refusal bs) refl n a
 
 -- what a check before a start answers
-told_err : (r : Result (Unit {0}) ImageRefusal) → is_err r ≡ is_some (told r)
-told_err (Ok x) = refl
-told_err (Err e) = refl
+err_some : (r : Result (Unit {0}) ImageRefusal) → is_err r ≡ is_some (result_err r)
+err_some (Ok x) = refl
+err_some (Err e) = refl
 
-pub start_err : (bs : List ℕ) (r : Result (Unit {0}) ImageRefusal) (t : Bool) → t ≡ is_err r → told r ≡ start_refusal bs → t ≡ lacks_room bs
+pub start_err : (bs : List ℕ) (r : Result (Unit {0}) ImageRefusal) (t : Bool) → t ≡ is_err r → result_err r ≡ start_refusal bs → t ≡ lacks_room bs
 start_err bs r t e f =
     e
-    ∙ (told_err r
-    ∙ (ap is_some f ∙ cond_both (lacks_room bs) (Some (6, 0)) None (λ o. is_some o ≡ lacks_room bs) (λ e. sym e) (λ e. sym e)))
+    ∙ (err_some r
+    ∙ (ap is_some f ∙ cond_both (lacks_room bs) (Some NoRoom) None (λ o. is_some o ≡ lacks_room bs) (λ e. sym e) (λ e. sym e)))
 
 module _ (bs : List ℕ) where
   proper_none : Proper (held 0 bs) 0
@@ -112,7 +114,7 @@ module _ (bs : List ℕ) where
   }
 
   -- an image that opens, or one that is refused
-  reads_by : (o : Option (ℕ × ℕ)) → open_refusal bs ≡ o → (n room : ℕ) → n ≡ cond (is_some o) 0 (count_in bs) → room ≡ cond (is_some o) 0 (capacity_of bs) → Reads bs n room
+  reads_by : (o : Option ImageRefusal) → open_refusal bs ≡ o → (n room : ℕ) → n ≡ cond (is_some o) 0 (count_in bs) → room ≡ cond (is_some o) 0 (capacity_of bs) → Reads bs n room
   reads_by None e n room a b = rw (a, b) (reads_open (count_in bs) (capacity_of bs) (none_open bs e))
   reads_by (Some x) e n room a b = rw (a, b) (reads_none (ap is_some e))
 
@@ -121,4 +123,4 @@ module _ (bs : List ℕ) where
 
   -- an image that lacks the room opens as nothing
   pub reads_lacking : true ≡ lacks_room bs → Reads bs 0 0
-  reads_lacking h = reads_none (ap is_some (cond-true (lacks_room bs) (Some (6, 0)) (seventh (first_unfit (count_in bs) 0 bs)) (sym h)))
+  reads_lacking h = reads_none (ap is_some (cond-true (lacks_room bs) (Some NoRoom) (option_map UnfitRecord (first_unfit (count_in bs) 0 bs)) (sym h)))

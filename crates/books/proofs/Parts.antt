@@ -32,5 +32,8 @@ module _ (at : ℕ) (new bs : List ℕ) (fits : at + length new ≤ length bs) w
       ∙ (ap (drop at') (ap (take (at' + width)) as_put ∙ take-put_mid_below at (length new) bs new (at' + width) h (omega arith))
       ∙ drop-take at' width bs)
 
+  pub past_written : (at' : ℕ) → at + length new ≤ at' → drop at' (written at new bs) ≡ drop at' bs
+  past_written at' h = ap (drop at') as_put ∙ drop-put_mid at (length new) bs new at' h (omega arith) refl
+
   pub part_after : (at' width : ℕ) → at + length new ≤ at' → part at' width (written at new bs) ≡ part at' width bs
-  part_after at' width h = ap (take width) (ap (drop at') as_put ∙ drop-put_mid at (length new) bs new at' h (omega arith) refl)
+  part_after at' width h = ap (take width) (past_written at' h)

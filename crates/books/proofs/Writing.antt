@@ -1,5 +1,5 @@
 -- An image after a record or the count is written.
-use Rattle.std.proofs.Common.{◌≡◌, ℕ, zero, suc, ◌+◌, ◌-◌, ◌/◌, ◌^◌, ◌<◌, ◌≤◌, min, false, List, [], ◌∷◌, ◌++◌, length, set, is_some, Some, sym, refl, ap, ◌∙◌, subst, ⊎_elim, arith}
+use Rattle.std.proofs.Common.{◌≡◌, ℕ, zero, suc, ◌+◌, ◌-◌, ◌/◌, ◌^◌, ◌<◌, ◌≤◌, min, false, List, [], ◌∷◌, ◌++◌, length, set, drop, is_some, Some, sym, refl, ap, ◌∙◌, subst, ⊎_elim, arith}
 use Rattle.std.proofs.lemmas.List.{set-append_left, set_at}
 use Rattle.std.proofs.lemmas.Bool.{cases_eq, cases_order}
 use Rattle.std.proofs.lemmas.Nat.{from_le_bytes-to_le_bytes_4}
@@ -10,9 +10,9 @@ use Rattle.books.specs.Bytes.{part, written}
 use Rattle.books.specs.Codec.{encoded, decoded}
 use Rattle.books.proofs.Inverse.{length_encoded}
 use Rattle.books.specs.Images.{count_in, capacity_of, start_of, slot, held}
-use Rattle.books.specs.Refusals.{lacks_room}
+use Rattle.books.specs.ImageRefusals.{lacks_room}
 use Rattle.books.specs.Reading.{Legible}
-use Rattle.books.proofs.Parts.{length_written, part_same, part_before, part_after}
+use Rattle.books.proofs.Parts.{length_written, part_same, part_before, past_written, part_after}
 use Rattle.books.proofs.ImagePlaces.{some_of, held_more, legible_less, length_held}
 use Rattle.books.proofs.Judging.{room_parts}
 use Rattle.books.proofs.Opening.{Open}
@@ -67,6 +67,9 @@ module _ (bs : List ℕ) (i : ℕ) (h : i < capacity_of bs) (r : Record) where
       (λ q. part_after (start_of i) (encoded r) bs fits (start_of j) 36 (omega arith)))
       (cases_order j i)
 
+  pub past_put : (at : ℕ) → start_of (i + 1) ≤ at → drop at (written (start_of i) (encoded r) bs) ≡ drop at bs
+  past_put at k = let e = length_encoded r in past_written (start_of i) (encoded r) bs fits at (omega arith)
+
   pub count_put : part 0 4 (written (start_of i) (encoded r) bs) ≡ part 0 4 bs
   count_put = part_before (start_of i) (encoded r) bs fits 0 4 (omega arith)
 
@@ -80,6 +83,9 @@ module _ (bs : List ℕ) (long : 4 ≤ length bs) (n : ℕ) (small : n < 2 ^ 32)
 
   pub slot_count : (j : ℕ) → slot j (written 0 (to_le_bytes w32 n) bs) ≡ slot j bs
   slot_count j = part_after 0 (to_le_bytes w32 n) bs count_fits (start_of j) 36 (omega arith)
+
+  pub past_count : (at : ℕ) → 4 ≤ at → drop at (written 0 (to_le_bytes w32 n) bs) ≡ drop at bs
+  past_count at k = past_written 0 (to_le_bytes w32 n) bs count_fits at (omega arith)
 
   pub count_count : count_in (written 0 (to_le_bytes w32 n) bs) ≡ n
   count_count = ap (from_le_bytes w32) (part_same 0 (to_le_bytes w32 n) bs count_fits) ∙ from_le_bytes-to_le_bytes_4 n small

@@ -1,4 +1,4 @@
--- A record as 36 bytes.
+-- A record as bytes.
 use Rattle.std.specs.Prelude.{ℕ, Bool, cond, ◌&&◌, List, ◌∷◌, ◌++◌, length, replicate, Some, None, Option, ◌==◌, slice_index}
 use Rattle.std.specs.Int.{w16, w32, w64, to_le_bytes, from_le_bytes}
 use Rattle.std.specs.Str.{bytes_eq}
@@ -10,6 +10,14 @@ use Rattle.accounts.specs.Ranges.{in_range}
 use Rattle.accounts.specs.Marks.{size_letter, size_of, kind_letter, kind_of, state_number, state_of}
 use Rattle.books.specs.Bytes.{part}
 
+-- how many bytes a record has
+abbrev pub record_bytes : ℕ
+record_bytes = 36
+
+-- how many of them, the last, are 0
+abbrev pub filler_bytes : ℕ
+filler_bytes = 6
+
 -- account at 0 in eight bytes, percentage at 8 in four, savings rate at 12 in two, class at 14, size at 15, kind at 16,
 -- state at 17, units held at 18 in eight, last period billed at 26 in four, and six zero bytes
 unfoldable pub encoded : Record → List ℕ
@@ -18,7 +26,7 @@ encoded r =
     ++ (to_le_bytes w32 r.percentage
     ++ (to_le_bytes w16 r.savings
     ++ (r.class ∷ size_letter r.size ∷ kind_letter r.kind ∷ state_number r.state
-    ∷ (to_le_bytes w64 r.held ++ (to_le_bytes w32 r.last ++ replicate 6 0)))))
+    ∷ (to_le_bytes w64 r.held ++ (to_le_bytes w32 r.last ++ replicate filler_bytes 0)))))
 
 abbrev pub ranged : Record → Option Record
 ranged r = cond (in_range r) (Some r) None
@@ -44,10 +52,11 @@ marked (Some z) (Some k) (Some s) bs =
 unfoldable pub fields_in : List ℕ → Option Record
 fields_in bs = marked (size_of (slice_index bs 15)) (kind_of (slice_index bs 16)) (state_of (slice_index bs 17)) bs
 
--- 36 bytes, of which the last six are 0
+-- as many bytes as a record has, of which the filler is 0
 abbrev pub framed : List ℕ → Bool
-framed bs = length bs == 36 && bytes_eq (part 30 6 bs) (replicate 6 0)
+framed bs = length bs == record_bytes && bytes_eq (part 30 filler_bytes bs) (replicate filler_bytes 0)
 
--- nothing where there are not 36 bytes, a filler byte is not 0, a mark is unknown or a number is out of range
+-- nothing where the bytes are too few or too many, a filler byte is not 0, a mark is unknown or a number is out of
+-- range
 abbrev pub decoded : List ℕ → Option Record
 decoded bs = cond (framed bs) (fields_in bs) None

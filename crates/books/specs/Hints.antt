@@ -1,6 +1,6 @@
 -- A book with hints of the places of its records.
 use Rattle.std.specs.Prelude.{◌≡◌, ℕ, ◌+◌, ◌%◌, ◌^◌, ◌<◌, Bool, false, List, ◌∷◌, Some, None, Option, ◌==◌}
-use Rattle.accounts.specs.Books.{Contents}
+use Rattle.accounts.specs.Books.{Contents, accounts, find}
 use Rattle.books.specs.declared.indexed.IndexedBook.{IndexedBook}
 
 -- the slot that is looked at for an account after so many others: the next one each time, and the first after the last
@@ -22,6 +22,10 @@ loan_of b = b.book.ghost_name
 -- what a book shows through its hints: the loan of the book is one more
 abbrev pub contents_with : ℕ → Contents → Contents
 contents_with loan contents = record contents { loans = loan ∷ contents.loans }
+
+-- the place of an account in a book that shows this; nothing where the book lacks it
+abbrev pub place_in : Contents → ℕ → Option ℕ
+place_in shown account = find account (accounts shown.records)
 
 -- whether what is found is a place
 abbrev pub is_at : Option ℕ → ℕ → Bool

@@ -1,11 +1,9 @@
 -- A book in an image that is lent to it.
-use Rattle.std.specs.Prelude.{◌≡◌, ℕ, ◌+◌, Bool, cond, List, [], ◌∷◌}
-use Rattle.std.specs.Int.{w32, to_le_bytes}
+use Rattle.std.specs.Prelude.{◌≡◌, ℕ, ◌+◌, ◌<◌, ◌≤◌, Bool, cond, List, [], ◌∷◌, drop, ◌==◌}
+use Rattle.std.specs.List.{All}
 use Rattle.accounts.specs.declared.record.Record.{Record}
-use Rattle.accounts.specs.Books.{Contents}
-use Rattle.books.specs.Bytes.{written}
-use Rattle.books.specs.Codec.{encoded}
-use Rattle.books.specs.Images.{start_of, held}
+use Rattle.accounts.specs.Books.{Contents, Left}
+use Rattle.books.specs.Images.{start_of, held, with_record, with_added, image_with}
 use Rattle.books.specs.Reading.{Reads}
 use Rattle.books.specs.declared.image.ImageBook.{ImageBook}
 
@@ -30,21 +28,43 @@ contents_of b = record { records = records_of b; room = room_of b; side = []; lo
 abbrev pub Sound : ImageBook → Type 0
 Sound b = Reads (image_of b) b.count (room_of b)
 
+-- the bytes that hold neither the count nor a record are as they were: no place is taken out of use, the bytes behind
+-- the last record stay, and an image that makes a book of no room stays whole
+pub record SameRest (old new : ImageBook) : Type 0 where
+  pub grows : old.count ≤ new.count
+  pub same_room : room_of new ≡ room_of old
+  pub past : drop (start_of new.count) (image_of new) ≡ drop (start_of new.count) (image_of old)
+  pub roomless : room_of old ≡ 0 → image_of new ≡ image_of old
+
+-- what any call leaves of the image follows from the records that it leaves: the count and their bytes stand in front,
+-- and behind them is what was there; an image that made a book of no room is as it was
+abbrev pub Pinned : ImageBook → ImageBook → Type 0
+Pinned old new =
+    (rs : List Record) → Left Sound contents_of SameRest old new rs → All (λ b. b < 256) (image_of new)
+    → image_of new ≡ cond (room_of old == 0) (image_of old) (image_with rs (image_of old))
+
+-- so a call that leaves the records as they were leaves every byte as it was
+abbrev pub StaysWhole : ImageBook → Type 0
+StaysWhole old =
+    (new : ImageBook) → Left Sound contents_of SameRest old new (records_of old)
+    → All (λ b. b < 256) (image_of old) → All (λ b. b < 256) (image_of new) → image_of new ≡ image_of old
+
 -- every book that these bytes keep has this list and this room
 abbrev pub ComesBack : List ℕ → ℕ → ℕ → Type 0
 ComesBack bs n room = (b : ImageBook) → Sound b → image_of b ≡ bs → (records_of b ≡ held n bs) × (room_of b ≡ room)
 
--- what adding leaves: where it is accepted, the 36 bytes after the last record and the four of the count are those of the
--- new record and the new count; every other byte stays
-pub record Added (accepted : Bool) (b b₀ : ImageBook) (r : Record) : Type 0 where
-  pub image : image_of b ≡ cond accepted (written 0 (to_le_bytes w32 (b₀.count + 1)) (written (start_of b₀.count) (encoded r) (image_of b₀))) (image_of b₀)
-  pub count : b.count ≡ cond accepted (b₀.count + 1) b₀.count
-  pub room : room_of b ≡ room_of b₀
-  pub loan : loan_of b ≡ loan_of b₀
+-- what adding leaves: where it is accepted, the bytes behind the last record are those of the new one, and the bytes of
+-- the count those of the new count; every other byte stays
+pub record Added (accepted : Bool) (old new : ImageBook) (r : Record) : Type 0 where
+  pub image : image_of new ≡ cond accepted (with_added old.count r (image_of old)) (image_of old)
+  pub count : new.count ≡ cond accepted (old.count + 1) old.count
+  pub room : room_of new ≡ room_of old
+  pub loan : loan_of new ≡ loan_of old
 
--- what replacing leaves: where it is accepted, the 36 bytes of the place are those of the new record; every other byte stays
-pub record Replaced (accepted : Bool) (b b₀ : ImageBook) (place : ℕ) (r : Record) : Type 0 where
-  pub image : image_of b ≡ cond accepted (written (start_of place) (encoded r) (image_of b₀)) (image_of b₀)
-  pub count : b.count ≡ b₀.count
-  pub room : room_of b ≡ room_of b₀
-  pub loan : loan_of b ≡ loan_of b₀
+-- what replacing leaves: where it is accepted, the bytes of the place are those of the new record; every other byte
+-- stays
+pub record Replaced (accepted : Bool) (old new : ImageBook) (place : ℕ) (r : Record) : Type 0 where
+  pub image : image_of new ≡ cond accepted (with_record place r (image_of old)) (image_of old)
+  pub count : new.count ≡ old.count
+  pub room : room_of new ≡ room_of old
+  pub loan : loan_of new ≡ loan_of old

@@ -1,29 +1,38 @@
--- An image of a book: a count of four bytes, then 36 bytes a record.
-use Rattle.std.specs.Prelude.{ℕ, zero, suc, ◌+◌, ◌-◌, ◌*◌, ◌/◌, min, cond, List, [], ◌++◌, map, length, take, Some, None, Option, nat_lt}
-use Rattle.std.specs.Int.{w32, w64, from_le_bytes}
+-- An image of a book: the count, then the bytes of each record.
+use Rattle.std.specs.Prelude.{ℕ, zero, suc, ◌+◌, ◌-◌, ◌*◌, ◌/◌, min, cond, List, [], ◌∷◌, ◌++◌, map, length, take, drop, Some, None, Option, nat_lt}
+use Rattle.std.specs.Int.{w32, w64, to_le_bytes, from_le_bytes}
 use Rattle.std.specs.List.{range_with_len}
 use Rattle.std.specs.Option.{option_to_list}
+use Rattle.base.specs.Limits.{most_records}
 use Rattle.accounts.specs.declared.record.Record.{Record}
-use Rattle.books.specs.Bytes.{part}
-use Rattle.books.specs.Codec.{decoded}
+use Rattle.books.specs.Bytes.{part, written}
+use Rattle.books.specs.Codec.{record_bytes, encoded, decoded}
+
+-- how many bytes the count has
+abbrev pub count_bytes : ℕ
+count_bytes = 4
+
+-- how many bytes the account number has, which leads a record
+abbrev pub account_bytes : ℕ
+account_bytes = 8
 
 abbrev pub count_in : List ℕ → ℕ
-count_in bs = from_le_bytes w32 (part 0 4 bs)
+count_in bs = from_le_bytes w32 (part 0 count_bytes bs)
 
 -- nothing where the image is shorter than a count
 abbrev pub count_at : List ℕ → Option ℕ
-count_at bs = cond (nat_lt (length bs) 4) None (Some (count_in bs))
+count_at bs = cond (nat_lt (length bs) count_bytes) None (Some (count_in bs))
 
--- the whole records after the count, at most 4,096
+-- the whole records after the count, at most as many as a book may have
 abbrev pub capacity_of : List ℕ → ℕ
-capacity_of bs = min 4096 ((length bs - 4) / 36)
+capacity_of bs = min most_records ((length bs - count_bytes) / record_bytes)
 
 abbrev pub start_of : ℕ → ℕ
-start_of place = 4 + 36 * place
+start_of place = count_bytes + record_bytes * place
 
--- the 36 bytes of a place
+-- the bytes of a place
 abbrev pub slot : ℕ → List ℕ → List ℕ
-slot place bs = part (start_of place) 36 bs
+slot place bs = part (start_of place) record_bytes bs
 
 abbrev pub slots_in : List ℕ → List (List ℕ)
 slots_in bs = map (λ i. slot i bs) (range_with_len 0 (capacity_of bs))
@@ -37,6 +46,23 @@ unfoldable pub held : ℕ → List ℕ → List Record
 held zero bs = []
 held (suc n) bs = held n bs ++ option_to_list (decoded (slot n bs))
 
--- the account number that leads the bytes of a record
+-- the account number that leads a record's bytes
 unfoldable pub account_in : List ℕ → ℕ
-account_in bytes = from_le_bytes w64 (take 8 bytes)
+account_in bytes = from_le_bytes w64 (take account_bytes bytes)
+
+-- an image with a record's bytes at a place
+abbrev pub with_record : ℕ → Record → List ℕ → List ℕ
+with_record place r bs = written (start_of place) (encoded r) bs
+
+-- an image of so many records with one more, and with the new count
+abbrev pub with_added : ℕ → Record → List ℕ → List ℕ
+with_added n r bs = written 0 (to_le_bytes w32 (n + 1)) (with_record n r bs)
+
+-- the bytes of records, one behind the other
+abbrev pub bytes_of : List Record → List ℕ
+bytes_of [] = []
+bytes_of (r ∷ rs) = encoded r ++ bytes_of rs
+
+-- the image that has these records, and behind them what stands in another
+abbrev pub image_with : List Record → List ℕ → List ℕ
+image_with rs bs = to_le_bytes w32 (length rs) ++ (bytes_of rs ++ drop (start_of (length rs)) bs)

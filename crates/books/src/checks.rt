@@ -1,8 +1,9 @@
-// The checks of an image that come before a book is made of it.
+//! The checks of an image that come before a book is made of it.
 ghost use Rattle.std.specs.Prelude.{◌≡◌, ◌<◌, ◌≤◌, Some, IfOk};
+ghost use Rattle.std.specs.Result.{result_err};
 ghost use Rattle.std.proofs.Common.{rules};
 ghost use Rattle.books.specs.Images.{count_in, capacity_of};
-ghost use Rattle.books.specs.Refusals.{refusal, reason_text, told, start_refusal, unfit, first_unfit, open_refusal};
+ghost use Rattle.books.specs.ImageRefusals.{first_unfit, number_of, open_refusal, place_of, reason_text, start_refusal, unfit};
 ghost use Rattle.books.specs.Reading.{Legible};
 
 use crate::layout;
@@ -10,12 +11,13 @@ use base::refusal::Numbered;
 use std::error::Error;
 use std::fmt;
 
-// Why an image is refused.
+/// Why an image is refused.
 #[derive(Clone, Copy, PartialEq, Eq, Debug)]
 pub enum ImageRefusal {
-    // under four bytes, or a count past the capacity
+    /// Fewer bytes than a count has, or a count past the capacity.
     NoRoom,
-    // a record out of range, of an account that an earlier record has, or with a filler byte that is not 0
+    /// At this place, counted from 0, a record out of range, of an account that an earlier record has, or with a filler
+    /// byte that is not 0.
     UnfitRecord(usize),
 }
 
@@ -35,9 +37,9 @@ impl fmt::Display for ImageRefusal {
 impl Error for ImageRefusal {}
 
 impl Numbered for ImageRefusal {
-    ghost number = { λ e. (refusal e).0 };
+    ghost number = { number_of };
 
-    ghost place = { λ e. (refusal e).1 };
+    ghost place = { place_of };
 
     ghost reason = { reason_text };
 
@@ -58,9 +60,9 @@ impl Numbered for ImageRefusal {
     }
 }
 
-// The count of an image that has room for so many records.
+// The count of an image that is not above its capacity.
 fn fitting_count(image: &[u8]) -> Result<usize, ImageRefusal>
-    ensures refused { told result ≡ start_refusal image.now }
+    ensures refused { result_err result ≡ start_refusal image.now }
     ensures count { IfOk result (λ n. n ≡ count_in image.now) }
 {
     layout::count(image)
@@ -68,9 +70,10 @@ fn fitting_count(image: &[u8]) -> Result<usize, ImageRefusal>
         .ok_or(ImageRefusal::NoRoom)
 }
 
-// Whether a book may be started in an image.
+/// Whether a book may be started in an image. [`ImageRefusal::NoRoom`] where the image has fewer bytes than a count
+/// has, or its count is above its capacity.
 pub fn check_start(image: &[u8]) -> Result<(), ImageRefusal>
-    ensures { told result ≡ start_refusal image.now }
+    ensures { result_err result ≡ start_refusal image.now }
 {
     fitting_count(image)?;
     Ok(())
@@ -94,20 +97,20 @@ fn first_unfit(image: &[u8], count: usize) -> Option<usize>
 
 // The count of an image that may be opened as a book.
 pub(crate) fn opened_count(image: &[u8]) -> Result<usize, ImageRefusal>
-    ensures refused { told result ≡ open_refusal image.now }
+    ensures refused { result_err result ≡ open_refusal image.now }
     ensures count { IfOk result (λ n. n ≡ count_in image.now) }
 {
     let count = fitting_count(image)?;
-    // a place that is found is the fault: `ok_or` would be the wrong way round
     match first_unfit(image, count) {
         None => Ok(count),
         Some(place) => Err(ImageRefusal::UnfitRecord(place)),
     }
 }
 
-// Whether an image may be opened as a book.
+/// Whether an image may be opened as a book. Refused as [`check_start`] refuses, and then with
+/// [`ImageRefusal::UnfitRecord`] for the first unfit record.
 pub fn check_open(image: &[u8]) -> Result<(), ImageRefusal>
-    ensures { told result ≡ open_refusal image.now }
+    ensures { result_err result ≡ open_refusal image.now }
 {
     opened_count(image)?;
     Ok(())

@@ -1,13 +1,16 @@
-// An account record as 36 bytes, and back.
-ghost use Rattle.std.specs.Prelude.{◌≡◌, ℕ, ◌+◌, ◌<◌, ◌≤◌, true, List, length, Some, All};
-ghost use Rattle.accounts.specs.declared.record.Record.{Record};
+//! An account record as bytes, and back.
+ghost use Rattle.std.specs.Prelude.{◌≡◌, ℕ, ◌+◌, ◌<◌, ◌≤◌, true, List, Some, All};
 ghost use Rattle.accounts.specs.Ranges.{in_range};
 ghost use Rattle.books.specs.Bytes.{part};
-ghost use Rattle.books.specs.Codec.{encoded, decoded};
+ghost use Rattle.books.specs.Codec.{record_bytes, encoded, decoded};
 
 use accounts::record::{Kind, Record, Size, State};
 
+/// How many bytes a record has.
 pub const RECORD_BYTES: usize = 36;
+
+// How many of them, the last, are 0.
+const FILLER_BYTES: usize = 6;
 
 // Where each field begins; it ends where the next begins. The filler is the last.
 const ACCOUNT: usize = 0;
@@ -30,7 +33,7 @@ const LAST: usize = 26;
 
 const FILLER: usize = 30;
 
-// The bytes of a record. Those of a record in range read back as it, and no others do.
+/// The bytes of a record. Those of a record in range read back as it, and no others do.
 #[tactic(auto, using(crate::proofs::Inverse::inverse), unfolding(crate::specs::Codec::encoded))]
 pub fn encode(of: &Record) -> [u8; RECORD_BYTES]
     ensures value { result ≡ encoded of.now }
@@ -52,7 +55,7 @@ pub fn encode(of: &Record) -> [u8; RECORD_BYTES]
 
 // So many bytes of a record from a place on.
 fn field<const N: usize>(bytes: &[u8; RECORD_BYTES], at: usize) -> [u8; N]
-    requires { at + N ≤ 36 }
+    requires { at + N ≤ record_bytes }
     ensures { result ≡ part at N bytes.now }
 {
     let mut field = [0; N];
@@ -60,13 +63,13 @@ fn field<const N: usize>(bytes: &[u8; RECORD_BYTES], at: usize) -> [u8; N]
     field
 }
 
-// The record whose bytes these are, or nothing where they are those of no record in range.
+/// The record whose bytes these are; none where they are those of no record in range.
 #[tactic(auto, unfolding(crate::specs::Codec::fields_in))]
 pub fn decode(bytes: &[u8]) -> Option<Record>
     ensures { result ≡ decoded bytes.now }
 {
     let bytes: &[u8; RECORD_BYTES] = bytes.try_into().ok()?;
-    if field::<6>(bytes, FILLER) != [0; 6] {
+    if field(bytes, FILLER) != [0; FILLER_BYTES] {
         return None;
     }
     let size = Size::try_from(bytes[SIZE]).ok()?;

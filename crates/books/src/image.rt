@@ -1,28 +1,30 @@
-// An account book in an image of bytes that the caller lends.
-ghost use Rattle.std.specs.Prelude.{◌≡◌, ℕ, ◌<◌, ◌≤◌, min, true, List, [], ◌∷◌, ◌++◌, is_some, IfSome, slice_set};
+//! An account book in an image of bytes that the caller lends.
+ghost use Rattle.std.specs.Prelude.{◌≡◌, true, [], ◌∷◌, ◌++◌, is_some, slice_set};
 ghost use Rattle.std.specs.List.{slice_get};
-ghost use Rattle.accounts.specs.Books.{accounts, find, present, takes, added, suits, replaced, Left};
-ghost use Rattle.books.specs.Images.{capacity_of};
+ghost use Rattle.accounts.specs.Books.{Left, accepts, accounts, added, find, present, replaced, suits};
 ghost use Rattle.books.specs.Reading.{opened_count, opened_room, started, started_room, Reads};
 
+use crate::extent::Extent;
 use crate::layout;
-use crate::making::{Extent, begin, measure};
 use accounts::book::AccountBook;
 use accounts::record::Record;
 
-// The count and the room are those of the image, read once; both are 0 where the image was unfit.
+/// A book whose records stand one behind the other in an image, after their count. Opened again, the image gives the
+/// book back.
 #[derive(Drop)]
 pub struct ImageBook<'a> {
     image: &'a mut [u8],
+    // count and room are those of the image; both are 0 where it was unfit
     count: usize,
     room: usize,
     ghost reads: { Reads image.now count room },
 }
 
 impl<'a> ImageBook<'a> {
-    ghost use Rattle.books.specs.Holding.{image_of, loan_of, records_of, room_of, contents_of, Sound, ComesBack, Added, Replaced};
+    ghost use Rattle.books.specs.Holding.{image_of, loan_of, records_of, room_of, contents_of, Sound, SameRest, Pinned, StaysWhole, ComesBack, Added, Replaced};
 
-    // An empty book in an image; an unfit image stays as it is, and makes a book of no room.
+    /// An empty book in an image, of which the count's bytes are written and no other. An image that
+    /// [`check_start`](crate::checks::check_start) refuses stays as it is, and makes a book of no room.
     pub fn start(image: &'a mut [u8]) -> ImageBook<'a>
         ensures image { image_of result ≡ started image.old }
         ensures count { result.count ≡ 0 }
@@ -30,17 +32,15 @@ impl<'a> ImageBook<'a> {
         ensures loan { loan_of result ≡ image.entry.ghost_name }
         ensures lent { (contents_of result).loans ≡ image.entry.ghost_name ∷ [] }
         ensures sound { Sound result }
+        ensures pinned { (old new : ImageBook) → Pinned old new }
+        ensures whole { (b : ImageBook) → Sound b → StaysWhole b }
     {
-        let room = begin(image);
-        ImageBook {
-            image,
-            count: 0,
-            room,
-        }
+        let Extent { count, room } = Extent::start(image);
+        ImageBook { image, count, room }
     }
 
-    // The book that an image holds; an unfit image stays as it is, and makes a book of no room. A book whose image is
-    // opened again comes back.
+    /// The book that an image holds. An image that [`check_open`](crate::checks::check_open) refuses stays as it is,
+    /// and makes a book of no room.
     pub fn open(image: &'a mut [u8]) -> ImageBook<'a>
         ensures image { image_of result ≡ image.old }
         ensures count { result.count ≡ opened_count image.old }
@@ -49,17 +49,18 @@ impl<'a> ImageBook<'a> {
         ensures lent { (contents_of result).loans ≡ image.entry.ghost_name ∷ [] }
         ensures sound { Sound result }
         ensures again { ComesBack image.old result.count (room_of result) }
+        ensures pinned { (old new : ImageBook) → Pinned old new }
+        ensures whole { (b : ImageBook) → Sound b → StaysWhole b }
     {
-        let Extent { count, room } = measure(image);
+        let Extent { count, room } = Extent::open(image);
         ImageBook { image, count, room }
     }
 
-    // Puts a record after the last.
-    #[tactic(auto, using(crate::proofs::Changing::reads_added))]
+    // Puts a record behind the last.
     fn push(&mut self, new: Record)
-        requires { takes (records_of self.old) (room_of self.old) new ≡ true }
-        ensures image { Added true self.new self.old new }
-        ensures after { Left (Sound self.new) (contents_of self.new) (contents_of self.old) (records_of self.old ++ new ∷ []) }
+        requires { accepts (contents_of self.old) new ≡ true }
+        ensures image { Added true self.old self.new new }
+        ensures after { Left Sound contents_of SameRest self.old self.new (records_of self.old ++ new ∷ []) }
     {
         layout::append(self.image, self.count, &new);
         self.count += 1;
@@ -68,28 +69,35 @@ impl<'a> ImageBook<'a> {
     // Puts a record at a place.
     fn put(&mut self, place: usize, new: Record)
         requires { suits (records_of self.old) place new ≡ true }
-        ensures image { Replaced true self.new self.old place new }
-        ensures after { Left (Sound self.new) (contents_of self.new) (contents_of self.old) (slice_set (records_of self.old) place new) }
+        ensures image { Replaced true self.old self.new place new }
+        ensures after { Left Sound contents_of SameRest self.old self.new (slice_set (records_of self.old) place new) }
     {
         layout::put(self.image, place, &new);
     }
 }
 
 impl<'a> AccountBook for ImageBook<'a> {
-    ghost use Rattle.books.specs.Holding.{image_of, loan_of, records_of, room_of, contents_of, Sound, Added, Replaced};
+    ghost use Rattle.books.specs.Holding.{image_of, loan_of, records_of, room_of, contents_of, Sound, SameRest, Added, Replaced};
+    ghost use Rattle.books.specs.ImageLaws.{stays, follows};
 
     ghost contents = { contents_of };
 
     ghost sound = { Sound };
 
+    ghost same_rest = { SameRest };
+
     ghost proper = { λ b s. s.proper };
 
+    ghost rest_stays = { stays };
+
+    ghost rest_follows = { follows };
+
     fn count(&self) -> usize {
-        self.count // as many of the first places
+        self.count
     }
 
     fn capacity(&self) -> usize {
-        self.room // none in an unfit image
+        self.room
     }
 
     fn get(&self, place: usize) -> Option<Record>
@@ -108,11 +116,10 @@ impl<'a> AccountBook for ImageBook<'a> {
         layout::place_of(self.image, self.count, account)
     }
 
-    // `add` and `replace` stand in each book: in one place they would need a public `push` with a `requires`
     fn add(&mut self, new: Record) -> bool
-        ensures answer { result ≡ takes (records_of self.old) (room_of self.old) new }
-        ensures after { Left (Sound self.new) (contents_of self.new) (contents_of self.old) (added result (records_of self.old) new) }
-        ensures image { Added result self.new self.old new }
+        ensures answer { result ≡ accepts (contents_of self.old) new }
+        ensures after { Left Sound contents_of SameRest self.old self.new (added result (records_of self.old) new) }
+        ensures image { Added result self.old self.new new }
     {
         let accepted = self.takes(&new);
         if accepted {
@@ -123,8 +130,8 @@ impl<'a> AccountBook for ImageBook<'a> {
 
     fn replace(&mut self, place: usize, new: Record) -> bool
         ensures answer { result ≡ suits (records_of self.old) place new }
-        ensures after { Left (Sound self.new) (contents_of self.new) (contents_of self.old) (replaced result (records_of self.old) place new) }
-        ensures image { Replaced result self.new self.old place new }
+        ensures after { Left Sound contents_of SameRest self.old self.new (replaced result (records_of self.old) place new) }
+        ensures image { Replaced result self.old self.new place new }
     {
         let accepted = self.suits(place, &new);
         if accepted {

@@ -1,4 +1,4 @@
-// Numbers of any width as bytes, the lowest byte first.
+//! Numbers of any width as bytes, the lowest byte first.
 ghost use Rattle.std.specs.Prelude.{◌≡◌, ◌^◌, ◌<◌, min, length, slice_index};
 ghost use Rattle.std.specs.Int.{w64, from_le_bytes};
 
@@ -9,12 +9,11 @@ fn byte(bytes: &[u8], place: usize) -> u8
     bytes.get(place).copied().unwrap_or(0)
 }
 
-// The number that the bytes stand for; bytes past the eighth are not read.
+/// The number that the bytes stand for; bytes past the eighth are not read.
 pub fn number(bytes: &[u8]) -> u64
     ensures value { result ≡ from_le_bytes w64 bytes.now }
     ensures bound { result < 256 ^ min 8 (length bytes.now) }
 {
-    // written out, since a slice may be shorter and then gives 0 for what it lacks
     u64::from_le_bytes([
         byte(bytes, 0),
         byte(bytes, 1),

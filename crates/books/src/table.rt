@@ -1,33 +1,35 @@
-// An account book in a table of records that the caller lends.
-#![tactic(auto)]
-
-ghost use Rattle.std.specs.Prelude.{◌≡◌, ℕ, ◌<◌, ◌≤◌, min, true, List, [], ◌∷◌, ◌++◌, is_some, length, take, if◌then◌else◌, slice_set};
+//! An account book in a table of records that the caller lends.
+ghost use Rattle.std.specs.Prelude.{◌≡◌, ◌≤◌, min, true, [], ◌∷◌, ◌++◌, is_some, length, take, if◌then◌else◌, slice_set};
 ghost use Rattle.std.specs.List.{slice_get};
-ghost use Rattle.accounts.specs.Books.{accounts, find, present, takes, added, suits, replaced, Proper, Left};
+ghost use Rattle.base.specs.Limits.{most_records};
+ghost use Rattle.accounts.specs.Books.{Left, Proper, accepts, accounts, added, find, present, replaced, suits, takes};
 
 use accounts::book::AccountBook;
-use base::limits::MOST_RECORDS;
 use accounts::record::Record;
+use base::limits::MOST_RECORDS;
 
-// The first `count` places of the table are the book; the places after them keep what they held.
+/// A book whose records are the first places of a table; the places after them keep what they held. Of a longer table
+/// the first [`MOST_RECORDS`](base::limits::MOST_RECORDS) places are used.
 #[derive(Drop)]
 pub struct TableBook<'a> {
     table: &'a mut [Record],
     count: usize,
     ghost within: { count ≤ length table.now },
-    ghost proper: { Proper (take count table.now) (min 4096 (length table.now)) },
+    ghost proper: { Proper (take count table.now) (min most_records (length table.now)) },
 }
 
 impl<'a> TableBook<'a> {
-    ghost use Rattle.books.specs.Tables.{table_of, count_of, loan_of, records_of, room_of, contents_of, Sound, Added, Replaced};
+    ghost use Rattle.books.specs.Tables.{table_of, count_of, loan_of, records_of, room_of, contents_of, Sound, SameRest, Pinned, StaysWhole, Added, Replaced};
 
-    // An empty book in a table; the table stays as it is.
+    /// An empty book in a table, which stays as it is.
     pub fn new(table: &'a mut [Record]) -> TableBook<'a>
         ensures empty { count_of result ≡ 0 }
         ensures table { table_of result ≡ table.old }
         ensures loan { loan_of result ≡ table.entry.ghost_name }
         ensures lent { (contents_of result).loans ≡ table.entry.ghost_name ∷ [] }
         ensures sound { Sound result }
+        ensures pinned { (old new : TableBook) → Pinned old new }
+        ensures whole { (b : TableBook) → Sound b → StaysWhole b }
     {
         TableBook { table, count: 0 }
     }
@@ -39,11 +41,11 @@ impl<'a> TableBook<'a> {
         &self.table[..self.count]
     }
 
-    // Puts a record after the last.
+    // Puts a record behind the last.
     fn push(&mut self, new: Record)
-        requires { takes (records_of self.old) (room_of self.old) new ≡ true }
-        ensures table { Added true self.new self.old new }
-        ensures after { Left (Sound self.new) (contents_of self.new) (contents_of self.old) (records_of self.old ++ new ∷ []) }
+        requires { accepts (contents_of self.old) new ≡ true }
+        ensures table { Added true self.old self.new new }
+        ensures after { Left Sound contents_of SameRest self.old self.new (records_of self.old ++ new ∷ []) }
     {
         self.table[self.count] = new;
         self.count += 1;
@@ -52,24 +54,31 @@ impl<'a> TableBook<'a> {
     // Puts a record at a place.
     fn put(&mut self, place: usize, new: Record)
         requires { suits (records_of self.old) place new ≡ true }
-        ensures table { Replaced true self.new self.old place new }
-        ensures after { Left (Sound self.new) (contents_of self.new) (contents_of self.old) (slice_set (records_of self.old) place new) }
+        ensures table { Replaced true self.old self.new place new }
+        ensures after { Left Sound contents_of SameRest self.old self.new (slice_set (records_of self.old) place new) }
     {
         self.table[place] = new;
     }
 }
 
 impl<'a> AccountBook for TableBook<'a> {
-    ghost use Rattle.books.specs.Tables.{table_of, count_of, loan_of, records_of, room_of, contents_of, Sound, Added, Replaced};
+    ghost use Rattle.books.specs.Tables.{table_of, count_of, loan_of, records_of, room_of, contents_of, Sound, SameRest, Added, Replaced};
+    ghost use Rattle.books.specs.TableLaws.{stays, follows};
 
     ghost contents = { contents_of };
 
     ghost sound = { Sound };
 
+    ghost same_rest = { SameRest };
+
     ghost proper = { λ b s. s.proper };
 
+    ghost rest_stays = { stays };
+
+    ghost rest_follows = { follows };
+
     fn count(&self) -> usize {
-        self.count // as many of the first places
+        self.count
     }
 
     fn capacity(&self) -> usize
@@ -93,11 +102,10 @@ impl<'a> AccountBook for TableBook<'a> {
             .position(|record| record.account == account)
     }
 
-    // `add` and `replace` stand in each book: in one place they would need a public `push` with a `requires`
     fn add(&mut self, new: Record) -> bool
-        ensures answer { result ≡ takes (records_of self.old) (room_of self.old) new }
-        ensures after { Left (Sound self.new) (contents_of self.new) (contents_of self.old) (added result (records_of self.old) new) }
-        ensures table { Added result self.new self.old new }
+        ensures answer { result ≡ accepts (contents_of self.old) new }
+        ensures after { Left Sound contents_of SameRest self.old self.new (added result (records_of self.old) new) }
+        ensures table { Added result self.old self.new new }
     {
         let accepted = self.takes(&new);
         if accepted {
@@ -108,8 +116,8 @@ impl<'a> AccountBook for TableBook<'a> {
 
     fn replace(&mut self, place: usize, new: Record) -> bool
         ensures answer { result ≡ suits (records_of self.old) place new }
-        ensures after { Left (Sound self.new) (contents_of self.new) (contents_of self.old) (replaced result (records_of self.old) place new) }
-        ensures table { Replaced result self.new self.old place new }
+        ensures after { Left Sound contents_of SameRest self.old self.new (replaced result (records_of self.old) place new) }
+        ensures table { Replaced result self.old self.new place new }
     {
         let accepted = self.suits(place, &new);
         if accepted {
@@ -119,10 +127,10 @@ impl<'a> AccountBook for TableBook<'a> {
     }
 }
 
-// Starts a book in a table with a first record, and lets the book go: the record is left in the first place, or, where
-// it is out of range or the table has no place, the table is as it was.
+/// Starts a book in a table with a first record, and lets the book go: the record is left in the first place, or, where
+/// it is out of range or the table has no place, the table is as it was.
 pub fn enter_first(table: &mut [Record], first: Record) -> bool
-    ensures answer { result ≡ takes [] (min 4096 (length table.old)) first }
+    ensures answer { result ≡ takes [] (min most_records (length table.old)) first }
     ensures table { table.new ≡ (if result then slice_set table.old 0 first else table.old) }
 {
     let mut book = TableBook::new(table);

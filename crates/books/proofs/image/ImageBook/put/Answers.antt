@@ -1,19 +1,29 @@
-use Rattle.std.proofs.Common.{rules}
-use Rattle.books.proofs.Changing.{reads_replaced}
+use Rattle.std.proofs.Common.{arith, rules}
+use Rattle.books.proofs.Changing.{record_replaced, room_suits}
+use Rattle.books.specs.Holding.{records_of}
 use Rattle.books.proofs.image.ImageBook.put.Goals as goal
 
 pub invariant_of-self : goal.invariant_of-self
 invariant_of-self c =
     let b = c.args.self.now in
-    record { reads = (reads_replaced b.image.now b.count b.room b.reads c.args.new c.put.new.image c.args.place c.requires c.put.ensures).0 }
+    record { reads = (record_replaced b.image.now b.count b.room b.reads c.args.new c.put.new.image c.args.place c.requires c.put.ensures).reads }
 
 pub returns-clause-after : goal.returns-clause-after
 returns-clause-after c =
     let b = c.args.self.now in
+    let after = record_replaced b.image.now b.count b.room b.reads c.args.new c.put.new.image c.args.place c.requires c.put.ensures in
     record {
-      stays = search rules;
-      list = (reads_replaced b.image.now b.count b.room b.reads c.args.new c.put.new.image c.args.place c.requires c.put.ensures).1;
-      same_room = search rules;
-      same_side = search rules;
-      same_loans = search rules;
+      kept = record {
+        stays = after.reads;
+        same_room = search rules;
+        same_side = search rules;
+        same_loans = search rules;
+        beyond = record {
+          grows = omega arith;
+          same_room = search rules;
+          past = after.past;
+          roomless = λ e. absurd (room_suits (records_of b) b.room c.args.place c.args.new b.reads.proper c.requires e);
+        };
+      };
+      list = after.list;
     }

@@ -1,0 +1,11 @@
+pub mod Changing
+pub mod ImagePlaces
+pub mod Inverse
+pub mod Judging
+pub mod Opening
+pub mod Parts
+pub mod Pinning
+pub mod Slots
+pub mod Standing
+pub mod TablePlaces
+pub mod Writing

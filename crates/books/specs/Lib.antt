@@ -1,0 +1,10 @@
+pub mod Bytes
+pub mod Codec
+pub mod Hints
+pub mod Holding
+pub mod ImageLaws
+pub mod ImageRefusals
+pub mod Images
+pub mod Reading
+pub mod TableLaws
+pub mod Tables
