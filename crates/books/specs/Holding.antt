@@ -36,17 +36,21 @@ pub record SameRest (old new : ImageBook) : Type 0 where
   pub past : drop (start_of new.count) (image_of new) ≡ drop (start_of new.count) (image_of old)
   pub roomless : room_of old ≡ 0 → image_of new ≡ image_of old
 
+-- a call leaves a book of these records, and keeps the rest
+abbrev pub LeftWith : ImageBook → ImageBook → List Record → Type 0
+LeftWith old new then = Left Sound contents_of SameRest old new then
+
 -- what any call leaves of the image follows from the records that it leaves: the count and their bytes stand in front,
 -- and behind them is what was there; an image that made a book of no room is as it was
 abbrev pub Pinned : ImageBook → ImageBook → Type 0
 Pinned old new =
-    (rs : List Record) → Left Sound contents_of SameRest old new rs → All (λ b. b < 256) (image_of new)
+    (rs : List Record) → LeftWith old new rs → All (λ b. b < 256) (image_of new)
     → image_of new ≡ cond (room_of old == 0) (image_of old) (image_with rs (image_of old))
 
 -- so a call that leaves the records as they were leaves every byte as it was
 abbrev pub StaysWhole : ImageBook → Type 0
 StaysWhole old =
-    (new : ImageBook) → Left Sound contents_of SameRest old new (records_of old)
+    (new : ImageBook) → LeftWith old new (records_of old)
     → All (λ b. b < 256) (image_of old) → All (λ b. b < 256) (image_of new) → image_of new ≡ image_of old
 
 -- every book that these bytes keep has this list and this room

@@ -38,17 +38,21 @@ pub record SameRest (old new : TableBook) : Type 0 where
   pub same_length : length (table_of new) ≡ length (table_of old)
   pub past : drop (count_of new) (table_of new) ≡ drop (count_of new) (table_of old)
 
+-- a call leaves a book of these records, and keeps the rest
+abbrev pub LeftWith : TableBook → TableBook → List Record → Type 0
+LeftWith old new then = Left Sound contents_of SameRest old new then
+
 -- what any call leaves of the table follows from the records that it leaves: they stand in front, and behind them is
 -- what was there
 abbrev pub Pinned : TableBook → TableBook → Type 0
 Pinned old new =
-    (rs : List Record) → Left Sound contents_of SameRest old new rs
+    (rs : List Record) → LeftWith old new rs
     → table_of new ≡ rs ++ drop (length rs) (table_of old)
 
 -- so a call that leaves the records as they were leaves the whole table as it was
 abbrev pub StaysWhole : TableBook → Type 0
 StaysWhole old =
-    (new : TableBook) → Left Sound contents_of SameRest old new (records_of old) → table_of new ≡ table_of old
+    (new : TableBook) → LeftWith old new (records_of old) → table_of new ≡ table_of old
 
 -- what adding leaves: where it is accepted, the place behind the last record holds the new one; every other place stays
 pub record Added (accepted : Bool) (old new : TableBook) (r : Record) : Type 0 where

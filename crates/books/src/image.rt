@@ -1,7 +1,7 @@
 //! An account book in an image of bytes that the caller lends.
 ghost use Rattle.std.specs.Prelude.{◌≡◌, true, [], ◌∷◌, ◌++◌, is_some, slice_set};
 ghost use Rattle.std.specs.List.{slice_get};
-ghost use Rattle.accounts.specs.Books.{Left, accepts, accounts, added, find, present, replaced, suits};
+ghost use Rattle.accounts.specs.Books.{accepts, accounts, added, find, present, replaced, suits};
 ghost use Rattle.books.specs.Reading.{opened_count, opened_room, started, started_room, Reads};
 
 use crate::extent::Extent;
@@ -21,7 +21,7 @@ pub struct ImageBook<'a> {
 }
 
 impl<'a> ImageBook<'a> {
-    ghost use Rattle.books.specs.Holding.{image_of, loan_of, records_of, room_of, contents_of, Sound, SameRest, Pinned, StaysWhole, ComesBack, Added, Replaced};
+    ghost use Rattle.books.specs.Holding.{image_of, loan_of, records_of, room_of, contents_of, Sound, SameRest, LeftWith, Pinned, StaysWhole, ComesBack, Added, Replaced};
 
     /// An empty book in an image, of which the count's bytes are written and no other. An image that
     /// [`check_start`](crate::checks::check_start) refuses stays as it is, and makes a book of no room.
@@ -60,7 +60,7 @@ impl<'a> ImageBook<'a> {
     fn push(&mut self, new: Record)
         requires { accepts (contents_of self.old) new ≡ true }
         ensures image { Added true self.old self.new new }
-        ensures after { Left Sound contents_of SameRest self.old self.new (records_of self.old ++ new ∷ []) }
+        ensures after { LeftWith self.old self.new (records_of self.old ++ new ∷ []) }
     {
         layout::append(self.image, self.count, &new);
         self.count += 1;
@@ -70,14 +70,14 @@ impl<'a> ImageBook<'a> {
     fn put(&mut self, place: usize, new: Record)
         requires { suits (records_of self.old) place new ≡ true }
         ensures image { Replaced true self.old self.new place new }
-        ensures after { Left Sound contents_of SameRest self.old self.new (slice_set (records_of self.old) place new) }
+        ensures after { LeftWith self.old self.new (slice_set (records_of self.old) place new) }
     {
         layout::put(self.image, place, &new);
     }
 }
 
 impl<'a> AccountBook for ImageBook<'a> {
-    ghost use Rattle.books.specs.Holding.{image_of, loan_of, records_of, room_of, contents_of, Sound, SameRest, Added, Replaced};
+    ghost use Rattle.books.specs.Holding.{image_of, loan_of, records_of, room_of, contents_of, Sound, SameRest, LeftWith, Added, Replaced};
     ghost use Rattle.books.specs.ImageLaws.{stays, follows};
 
     ghost contents = { contents_of };
@@ -118,7 +118,7 @@ impl<'a> AccountBook for ImageBook<'a> {
 
     fn add(&mut self, new: Record) -> bool
         ensures answer { result ≡ accepts (contents_of self.old) new }
-        ensures after { Left Sound contents_of SameRest self.old self.new (added result (records_of self.old) new) }
+        ensures after { LeftWith self.old self.new (added result (records_of self.old) new) }
         ensures image { Added result self.old self.new new }
     {
         let accepted = self.takes(&new);
@@ -130,7 +130,7 @@ impl<'a> AccountBook for ImageBook<'a> {
 
     fn replace(&mut self, place: usize, new: Record) -> bool
         ensures answer { result ≡ suits (records_of self.old) place new }
-        ensures after { Left Sound contents_of SameRest self.old self.new (replaced result (records_of self.old) place new) }
+        ensures after { LeftWith self.old self.new (replaced result (records_of self.old) place new) }
         ensures image { Replaced result self.old self.new place new }
     {
         let accepted = self.suits(place, &new);

@@ -2,7 +2,7 @@
 ghost use Rattle.std.specs.Prelude.{◌≡◌, ◌≤◌, min, true, [], ◌∷◌, ◌++◌, is_some, length, take, if◌then◌else◌, slice_set};
 ghost use Rattle.std.specs.List.{slice_get};
 ghost use Rattle.base.specs.Limits.{most_records};
-ghost use Rattle.accounts.specs.Books.{Left, Proper, accepts, accounts, added, find, present, replaced, suits, takes};
+ghost use Rattle.accounts.specs.Books.{Proper, accepts, accounts, added, find, present, replaced, suits, takes};
 
 use accounts::book::AccountBook;
 use accounts::record::Record;
@@ -19,7 +19,7 @@ pub struct TableBook<'a> {
 }
 
 impl<'a> TableBook<'a> {
-    ghost use Rattle.books.specs.Tables.{table_of, count_of, loan_of, records_of, room_of, contents_of, Sound, SameRest, Pinned, StaysWhole, Added, Replaced};
+    ghost use Rattle.books.specs.Tables.{table_of, count_of, loan_of, records_of, room_of, contents_of, Sound, SameRest, LeftWith, Pinned, StaysWhole, Added, Replaced};
 
     /// An empty book in a table, which stays as it is.
     pub fn new(table: &'a mut [Record]) -> TableBook<'a>
@@ -45,7 +45,7 @@ impl<'a> TableBook<'a> {
     fn push(&mut self, new: Record)
         requires { accepts (contents_of self.old) new ≡ true }
         ensures table { Added true self.old self.new new }
-        ensures after { Left Sound contents_of SameRest self.old self.new (records_of self.old ++ new ∷ []) }
+        ensures after { LeftWith self.old self.new (records_of self.old ++ new ∷ []) }
     {
         self.table[self.count] = new;
         self.count += 1;
@@ -55,14 +55,14 @@ impl<'a> TableBook<'a> {
     fn put(&mut self, place: usize, new: Record)
         requires { suits (records_of self.old) place new ≡ true }
         ensures table { Replaced true self.old self.new place new }
-        ensures after { Left Sound contents_of SameRest self.old self.new (slice_set (records_of self.old) place new) }
+        ensures after { LeftWith self.old self.new (slice_set (records_of self.old) place new) }
     {
         self.table[place] = new;
     }
 }
 
 impl<'a> AccountBook for TableBook<'a> {
-    ghost use Rattle.books.specs.Tables.{table_of, count_of, loan_of, records_of, room_of, contents_of, Sound, SameRest, Added, Replaced};
+    ghost use Rattle.books.specs.Tables.{table_of, count_of, loan_of, records_of, room_of, contents_of, Sound, SameRest, LeftWith, Added, Replaced};
     ghost use Rattle.books.specs.TableLaws.{stays, follows};
 
     ghost contents = { contents_of };
@@ -104,7 +104,7 @@ impl<'a> AccountBook for TableBook<'a> {
 
     fn add(&mut self, new: Record) -> bool
         ensures answer { result ≡ accepts (contents_of self.old) new }
-        ensures after { Left Sound contents_of SameRest self.old self.new (added result (records_of self.old) new) }
+        ensures after { LeftWith self.old self.new (added result (records_of self.old) new) }
         ensures table { Added result self.old self.new new }
     {
         let accepted = self.takes(&new);
@@ -116,7 +116,7 @@ impl<'a> AccountBook for TableBook<'a> {
 
     fn replace(&mut self, place: usize, new: Record) -> bool
         ensures answer { result ≡ suits (records_of self.old) place new }
-        ensures after { Left Sound contents_of SameRest self.old self.new (replaced result (records_of self.old) place new) }
+        ensures after { LeftWith self.old self.new (replaced result (records_of self.old) place new) }
         ensures table { Replaced result self.old self.new place new }
     {
         let accepted = self.suits(place, &new);
