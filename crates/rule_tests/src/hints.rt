@@ -1,14 +1,13 @@
-// Tests that an index finds accounts by its hints, which no contract says: it answers as the book under it in any case.
-#![tactic(auto)]
+//! That an index finds accounts by its hints, which no contract says: it answers as the book under it in any case.
 
 #[cfg(test)]
 mod tests {
     use accounts::book::AccountBook;
     use accounts::record::Record;
     use books::indexed::IndexedBook;
+    use books::table::TableBook;
     use std::cell::Cell;
     use std::process::Abort;
-    use books::table::TableBook;
 
     // A book that counts how often it is searched from its first record on.
     #[derive(Drop)]
@@ -18,11 +17,17 @@ mod tests {
     }
 
     impl<'a, B: AccountBook> AccountBook for Counted<'a, B> {
-        ghost contents = { λ c. B.AccountBook.contents c.book.now };
+        ghost contents = { λ c. B.contents c.book.now };
 
-        ghost sound = { λ c. B.AccountBook.sound c.book.now };
+        ghost sound = { λ c. B.sound c.book.now };
 
-        ghost proper = { λ c s. B.AccountBook.proper c.book.now s };
+        ghost same_rest = { λ a b. B.same_rest a.book.now b.book.now };
+
+        ghost proper = { λ c s. B.proper c.book.now s };
+
+        ghost rest_stays = { λ c. B.rest_stays c.book.now };
+
+        ghost rest_follows = { λ a b c h k. B.rest_follows a.book.now b.book.now c.book.now h k };
 
         fn count(&self) -> usize {
             self.book.count()
@@ -60,8 +65,8 @@ mod tests {
         }
     }
 
-    // A book of four accounts has an index. A fifth account joins through the index, and all five are sought and found at
-    // their places: answers how many of these searches went on to the book.
+    // A book of four accounts has an index. A fifth account joins through the index, and all five are sought and found
+    // at their places: answers how many of these searches went on to the book.
     fn searches(rt: &impl Abort, hints: &mut [Option<usize>]) -> usize {
         let mut table = [Record::default(); 5];
         let mut book = TableBook::new(&mut table);

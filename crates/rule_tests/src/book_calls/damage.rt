@@ -1,8 +1,8 @@
-// Images that are refused.
-use crate::samples::{largest, small};
+//! Images that are refused.
+use super::samples::{largest, small};
 use accounts::book::AccountBook;
-use books::image::ImageBook;
 use books::checks::{ImageRefusal, check_open, check_start};
+use books::image::ImageBook;
 
 // An image of three places, all in use, and two bytes past them.
 fn whole() -> [u8; 114] {
@@ -42,7 +42,6 @@ fn unfit_first_and_last(rt: HostRuntime) {
         for place in 0..3usize {
             let mut image = whole();
             assert!(rt; at < 36);
-            // by index: chunks to be written would keep the image lent while it is checked
             image[4 + 36 * place + at] = value;
             assert_eq!(rt; check_open(&image), Err(ImageRefusal::UnfitRecord(place)));
             assert_eq!(rt; check_start(&image), Ok(()));

@@ -1,13 +1,13 @@
-// The same calls on a book of each kind, with the answers that the rules give.
-use crate::samples::{largest, small};
+//! The same calls on a book of each kind, with the answers that the rules give.
+use super::samples::{largest, small};
 use accounts::book::AccountBook;
 use accounts::record::Record;
-use books::image::ImageBook;
 use books::checks::check_open;
-use std::process::Abort;
+use books::image::ImageBook;
 use books::table::TableBook;
+use std::process::Abort;
 
-// A call and its answer are values, since one list of both is made on three books; a closure is for one kind of book.
+// A call and its answer as values: one list of both is made on three books.
 #[derive(Clone, Copy)]
 enum Call {
     Count,

@@ -1,4 +1,4 @@
-// Records to build books from.
+//! Records to build books from.
 use accounts::record::{Kind, Record, Size, State};
 
 // A small member's record in range.
