@@ -26,11 +26,11 @@ length_file es =
     simp (length-append, length_pairs) (omega arith)
 
 -- the bytes of a file of some entries
-abbrev pub bytes : List Entry → ℕ
+abbrev pub bytes : List FiledLine → ℕ
 bytes es = 2 + 6 * length es + length (flat_map text (map item es))
 
 -- what is judged once the number of lines is possible
-pub packing_judged : (es : List Entry) → 1 ≤ length es → length es ≤ 1024 → sized (packing (map item es)) ≡ then (items_from 0 (map item es)) (λ _. cond (ltb 65535 (bytes es)) (Err refusal.FileLength) (Ok (bytes es)))
+pub packing_judged : (es : List FiledLine) → 1 ≤ length es → length es ≤ 1024 → sized (packing (map item es)) ≡ then (items_from 0 (map item es)) (λ _. cond (ltb 65535 (bytes es)) (Err refusal.FileLength) (Ok (bytes es)))
 unfolding packing
 packing_judged es some few =
     let long = length_file (map item es) in
@@ -38,11 +38,11 @@ packing_judged es some few =
     grind (arith, nat_tests)
 
 -- the entry at i and those behind it
-pub items_step : (es : List Entry) (i : ℕ) (d : Entry) → i < length es → items_from i (map item (drop i es)) ≡ cond (holds (get_or es i d).line) (cond (leb (length (get_or es i d).remark.now) 79) (items_from (i + 1) (map item (drop (i + 1) es))) (Err (refusal.Remark i))) (Err (refusal.Number i))
+pub items_step : (es : List FiledLine) (i : ℕ) (d : FiledLine) → i < length es → items_from i (map item (drop i es)) ≡ cond (holds (get_or es i d).line) (cond (leb (length (get_or es i d).remark.now) 79) (items_from (i + 1) (map item (drop (i + 1) es))) (Err (refusal.Remark i))) (Err (refusal.Number i))
 unfolding items_from
 items_step es i d l = rw (drop_more es i d l)
 
-pub items_all : (es : List Entry) (i : ℕ) → length es ≤ i → items_from i (map item (drop i es)) ≡ Ok tt
+pub items_all : (es : List FiledLine) (i : ℕ) → length es ≤ i → items_from i (map item (drop i es)) ≡ Ok tt
 unfolding items_from
 items_all es i h = rw (drop_all i es h)
 

@@ -10,7 +10,7 @@ use Rattle.accounts.specs.declared.record.Kind.TheVariants.{Member}
 use Rattle.requests.specs.declared.pairs.Pair.{Pair}
 use Rattle.requests.specs.Form.{then, line_of}
 use Rattle.requests.specs.Meaning.{pair_at, end_of, fits, pairs_from, of_line, line_at, lines_from, checked, written}
-use Rattle.requests.specs.Parts.{Placed}
+use Rattle.requests.specs.Placed.{Placed}
 
 pub pairs_step : (file : List ℕ) (start place n : ℕ) → place < n → pairs_from file start place (n - place) ≡ cond (fits (length file) start (pair_at file place)) (pairs_from file (end_of (pair_at file place)) (place + 1) (n - (place + 1))) (Err (record { place = place }))
 unfolding pairs_from
@@ -83,43 +83,6 @@ lines_at file a (suc n) (suc i) d (x ∷ ls) h l =
     let e : a + suc i ≡ a + 1 + i = omega arith in
     rw e (lines_at file (a + 1) n i d ls (lines_split file a n x ls h).1 (omega arith))
 
--- some line
-blank : Line
-blank = record { account = 0; percentage = 0; savings = 0; class = 0; size = Small; kind = Member }
-
 pub ok_values : {E : Type 0} (r : Result (List Line) E) → checked r ≡ Ok tt → r ≡ Ok (values r)
 ok_values (Ok lines) h = refl
 ok_values (Err fault) h = cc
-
-module _ (file : List ℕ) (n : ℕ) (formed : checked (lines_from file 0 n) ≡ Ok tt) (table : List Line) where
-  all : List Line
-  all = values (lines_from file 0 n)
-
-  all_length : length all ≡ n
-  unfolding all
-  all_length = length_lines file 0 n all (ok_values (lines_from file 0 n) formed)
-
-  -- what stands at a place of a file whose lines are in form
-  all_at : (place : ℕ) (line : Line) → place < n → line_at file place ≡ Ok (get_or all place line)
-  unfolding all
-  all_at place line l = rw zero-add at (lines_at file 0 n place line all (ok_values (lines_from file 0 n) formed) (omega (arith, all_length)))
-
-  pub line_formed : (place : ℕ) → place < n → IsOk (line_at file place)
-  line_formed place l = rw (all_at place blank l)
-
-  -- one more line in its place
-  pub table_more : (place : ℕ) (line : Line) (t : List Line) → place < n → n ≤ length table → Ok line ≡ line_at file place → t ≡ take place (values (lines_from file 0 n)) ++ drop place table → set t place line ≡ take (place + 1) (values (lines_from file 0 n)) ++ drop (place + 1) table
-  unfolding all
-  table_more place line t l room is was =
-      let here : get_or all place line ≡ line = let h = all_at place line l in cc in
-      let in_all : place < length all = omega (arith, all_length) in
-      let in_table : place < length table = omega arith in
-      rw (was, drop_more table place line in_table, take_more all place line in_all, append_assoc, here) (set_at (take place all) _ _ line place (length-take-le place all (omega arith)))
-
-  pub table_all : (place : ℕ) (t : List Line) → place ≡ n → length table ≡ n → t ≡ take place (values (lines_from file 0 n)) ++ drop place table → (rest : List Line) → t ++ drop n rest ≡ written (lines_from file 0 n) rest
-  unfolding all
-  table_all place t here long was rest =
-      let len = all_length in
-      let same : place ≡ length all = omega arith in
-      let front : t ≡ all = rw (was, same, take_all (length all) all (omega arith), drop_all (length all) table (omega arith)) (append-nil all) in
-      rw (ok_values (lines_from file 0 n) formed, front, len)

@@ -1,4 +1,13 @@
+pub mod Checks
+pub mod Fields
+pub mod Holding
 pub mod Judged
 pub mod Numerals
+pub mod Opened
+pub mod Packs
+pub mod Padded
+pub mod Places
 pub mod Readings
 pub mod Sixes
+pub mod Texts
+pub mod Trips

@@ -18,7 +18,7 @@ length_behind_most [] = omega arith
 length_behind_most (b ∷ r) = omega arith
 
 -- the entry at i and those behind it
-module _ (es : List Entry) (i : ℕ) (d : Entry) (l : i < length es) where
+module _ (es : List FiledLine) (i : ℕ) (d : FiledLine) (l : i < length es) where
   pub texts_more : (bs : List ℕ) → (bs ++ text (item (get_or es i d))) ++ flat_map text (map item (drop (i + 1) es)) ≡ bs ++ flat_map text (map item (drop i es))
   texts_more bs = rw (drop_more es i d l, append_assoc)
 
@@ -33,5 +33,5 @@ module _ (es : List Entry) (i : ℕ) (d : Entry) (l : i < length es) where
   remark_short = omega (arith, length_text (item (get_or es i d)), length_behind (get_or es i d).remark.now)
 
 -- what is read past the end of the entries
-abbrev pub blank : Entry
+abbrev pub blank : FiledLine
 blank = record { line = record { account = 0; percentage = 0; savings = 0; class = 0; size = Small; kind = Member }; remark = record { ref_ptr = (0, 0); now = [] } }

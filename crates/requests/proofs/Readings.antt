@@ -1,8 +1,9 @@
 -- What is known of a file that was read.
-use Rattle.std.proofs.Common.{◌≡◌, ℕ, ◌+◌, ◌*◌, ◌≤◌, List, length, Ok, Err, Result, sym, refl, ap, ◌∙◌, arith}
+use Rattle.std.proofs.Common.{◌≡◌, ℕ, ◌+◌, ◌*◌, ◌≤◌, true, List, length, is_ok, Ok, sym, refl, arith}
 use Rattle.std.proofs.lemmas.Bool.Decides.{nat_tests}
 use Rattle.accounts.specs.declared.record.Line.{Line}
-use Rattle.requests.specs.Meaning.{pairs_from, lines_from, lines_of, count, reading, meaning, checked, counted, written}
+use Rattle.base.specs.Limits.{most_lines}
+use Rattle.requests.specs.Meaning.{pairs_from, lines_from, lines_of, count, reading, meaning, lines_in, checked}
 use Rattle.requests.proofs.Judged.{then_ok, length_lines, ok_values, values}
 
 -- a length and a line count that are in order
@@ -34,35 +35,28 @@ meant file ls h =
     let formed : lines_from file 0 n ≡ Ok ls = grind arith in
     rw (length_lines file 0 n ls formed) (record { counts = counts.1; placed = grind arith; formed = formed })
 
--- a file in order, with its lines read into enough places
-pub record InOrder (file : List ℕ) (places n : ℕ) : Type 0 where
-  pub room : n ≤ places
-  pub formed : checked (lines_from file 0 n) ≡ Ok tt
-  pub writes : (table : List Line) → written (lines_from file 0 n) table ≡ written (reading file places) table
+-- a file whose pairs and lines were judged
+pub record Passed (file : List ℕ) (n : ℕ) : Type 0 where
+  pub ok : is_ok (meaning file) ≡ true
+  pub counts : n ≡ length (lines_in file)
+  pub lines : lines_of file n ≡ Ok (lines_in file)
 
-counted_ok : {E : Type 0} (r : Result (List Line) E) (n : ℕ) → Ok n ≡ counted r → (ls : List Line) × (r ≡ Ok ls) × (n ≡ length ls)
-counted_ok (Ok ls) n h = (ls, refl, cc)
-counted_ok (Err e) n h = cc
+pub passed : (file : List ℕ) (n : ℕ) → count file ≡ Ok n → Ok tt ≡ pairs_from file (2 + 6 * n) 0 n → Ok tt ≡ checked (lines_from file 0 n) → Passed file n
+passed file n counts placed formed =
+    let ls = values (lines_from file 0 n) in
+    let lines : lines_from file 0 n ≡ Ok ls = ok_values (lines_from file 0 n) (sym formed) in
+    let long : length ls ≡ n = length_lines file 0 n ls lines in
+    let in_order : lines_of file n ≡ Ok ls = rw (← placed, lines) in
+    let means : meaning file ≡ Ok ls = rw counts in_order in
+    record { ok = rw means; counts = rw means (sym long); lines = rw means in_order }
 
-pub in_order : (file : List ℕ) (places n : ℕ) → Ok n ≡ counted (reading file places) → InOrder file places n
-in_order file places n h =
-    let read = counted_ok (reading file places) n h in
-    let ls = read.0 in
-    let m = meant file ls (grind (arith, nat_tests)) in
-    rw read.2 (record {
-      room = grind (arith, nat_tests);
-      formed = ap checked m.formed;
-      writes = λ table. ap (λ r. written r table) m.formed ∙ sym (ap (λ r. written r table) read.1);
-    })
-
--- a file that every check passes
-pub all_pass : (file : List ℕ) (places n : ℕ) → Ok n ≡ count file → n ≤ places → Ok tt ≡ pairs_from file (2 + 6 * n) 0 n → Ok tt ≡ checked (lines_from file 0 n) → Ok n ≡ counted (reading file places)
-all_pass file places n counts room placed formed =
-    let lines = ok_values (lines_from file 0 n) (sym formed) in
-    let long = length_lines file 0 n (values (lines_from file 0 n)) lines in
-    grind (arith, nat_tests)
+-- as many lines are read as the file counts
+pub length_lines_of : (file : List ℕ) (n : ℕ) (ls : List Line) → lines_of file n ≡ Ok ls → length ls ≡ n
+length_lines_of file n ls h =
+    let formed : lines_from file 0 n ≡ Ok ls = grind arith in
+    length_lines file 0 n ls formed
 
 -- as many places as a file can have lines are always enough
-pub reading_all : (file : List ℕ) → reading file 1024 ≡ meaning file
+pub reading_all : (file : List ℕ) → reading file most_lines ≡ meaning file
 unfolding count
 reading_all file = grind (arith, nat_tests)

@@ -129,7 +129,7 @@ unfolding packing
 packs es h = grind (arith, nat_tests)
 
 -- the numbers of each line fit
-pub numbers_at : (p : ℕ) (es : List Entry) → items_from p (map item es) ≡ Ok tt → (k : ℕ) (d : Entry) → k < length es → holds (get_or es k d).line ≡ true
+pub numbers_at : (p : ℕ) (es : List FiledLine) → items_from p (map item es) ≡ Ok tt → (k : ℕ) (d : FiledLine) → k < length es → holds (get_or es k d).line ≡ true
 numbers_at p [] h k d l = absurd (omega arith)
 numbers_at p (e ∷ es) h zero d l = (items_split p (item e) (map item es) h).0.numbers
 numbers_at p (e ∷ es) h (suc k) d l = numbers_at (p + 1) es (items_split p (item e) (map item es) h).1 k d (omega arith)

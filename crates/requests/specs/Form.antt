@@ -3,6 +3,7 @@ use Rattle.std.specs.Prelude.{ℕ, zero, suc, ◌+◌, ◌-◌, ◌*◌, Bool, t
 use Rattle.std.specs.Option.{ok_or}
 use Rattle.accounts.specs.declared.record.Line.{Line}
 use Rattle.accounts.specs.Marks.{size_of, kind_of}
+use Rattle.requests.specs.Limits.{field_bytes, account_digits, percentage_digits, savings_digits, class_digits}
 use Rattle.requests.specs.declared.fault.FieldFault.{FieldFault}
 use Rattle.requests.specs.declared.fault.FieldFault.TheVariants.{NotDigit, NotSpace, NotLetter}
 
@@ -20,11 +21,12 @@ unfoldable pub all_digits : List ℕ → ℕ → ℕ → Bool
 all_digits bs at zero = true
 all_digits bs at (suc w) = all_digits bs at w && is_digit (slice_index bs (at + w))
 
--- a number with one digit more
+-- a number with one digit more behind it
 abbrev pub and_digit : ℕ → ℕ → ℕ
 and_digit n b = n * 10 + (b - 48)
 
--- A number is that of its digits but the last, times ten, plus the last digit; with no digit it is 0.
+-- The number that the w bytes from `at` on write in decimal. Read from the left, a further digit goes behind the number
+-- so far; no digit writes 0.
 unfoldable pub number : List ℕ → ℕ → ℕ → ℕ
 number bs at zero = 0
 number bs at (suc w) = and_digit (number bs at w) (slice_index bs (at + w))
@@ -47,22 +49,29 @@ letter mark = ok_or mark NotLetter
 
 -- a line longer than its fields has a space before the remark
 abbrev pub remark_space : List ℕ → Result (Unit {0}) FieldFault
-remark_space bs = cond (nat_lt 30 (length bs)) (space_at bs 30) (Ok tt)
+remark_space bs = cond (nat_lt field_bytes (length bs)) (space_at bs field_bytes) (Ok tt)
 
--- The fields of a line in their order, single spaces between them, or the first that is wrong:
--- eleven digits of account, six of percentage, four of savings rate, two of class, size, kind.
+-- The fields of a line in their order, single spaces between them, or the first that is wrong: account, percentage,
+-- savings rate and class in digits, and the letters of size and kind.
 abbrev pub line_of : List ℕ → Result Line FieldFault
 line_of bs =
-    then (number_at bs 0 11) (λ account.
+    then (number_at bs 0 account_digits) (λ account.
     then (space_at bs 11) (λ _.
-    then (number_at bs 12 6) (λ percentage.
+    then (number_at bs 12 percentage_digits) (λ percentage.
     then (space_at bs 18) (λ _.
-    then (number_at bs 19 4) (λ savings.
+    then (number_at bs 19 savings_digits) (λ savings.
     then (space_at bs 23) (λ _.
-    then (number_at bs 24 2) (λ class.
+    then (number_at bs 24 class_digits) (λ class.
     then (space_at bs 26) (λ _.
     then (letter (size_of (slice_index bs 27))) (λ size.
     then (space_at bs 28) (λ _.
     then (letter (kind_of (slice_index bs 29))) (λ kind.
     then (remark_space bs) (λ _.
-    Ok (record { account = account; percentage = percentage; savings = savings; class = class; size = size; kind = kind })))))))))))))
+    Ok (record {
+      account = account;
+      percentage = percentage;
+      savings = savings;
+      class = class;
+      size = size;
+      kind = kind;
+    })))))))))))))

@@ -1,4 +1,7 @@
-pub mod Causes
 pub mod Form
+pub mod Limits
 pub mod Meaning
-pub mod Parts
+pub mod Packing
+pub mod Placed
+pub mod Reading
+pub mod Refusals

@@ -1,7 +1,10 @@
 -- What a request file means: its lines, or the first fault.
 use Rattle.std.specs.Prelude.{ℕ, zero, suc, ◌+◌, ◌-◌, ◌*◌, Bool, cond, ◌&&◌, ◌||◌, List, [], ◌∷◌, ◌++◌, length, take, drop, Some, None, Ok, Err, Option, Result, ◌==◌, nat_le, nat_lt}
 use Rattle.std.specs.Int.{from_le_bytes, w16, w32}
+use Rattle.std.specs.Result.{result_unwrap_or}
 use Rattle.accounts.specs.declared.record.Line.{Line}
+use Rattle.base.specs.Limits.{most_lines}
+use Rattle.requests.specs.Limits.{most_file, count_bytes, pair_bytes, field_bytes, most_line}
 use Rattle.requests.specs.declared.fault.FieldFault.{FieldFault}
 use Rattle.requests.specs.declared.fault.LineFault.{LineFault}
 use Rattle.requests.specs.declared.fault.PairFault.{PairFault}
@@ -10,20 +13,27 @@ use Rattle.requests.specs.declared.fault.RequestRefusal.TheVariants as refusal
 use Rattle.requests.specs.declared.pairs.Pair.{Pair}
 use Rattle.requests.specs.Form.{then, line_of}
 
--- After the line count of two bytes stand the pairs: an offset of four bytes and a length of two. The lowest byte of
--- each number comes first.
+-- the bytes of the line count and of so many pairs
+abbrev pub head_bytes : ℕ → ℕ
+head_bytes pairs = count_bytes + pair_bytes * pairs
+
+-- Behind the line count stand the pairs: an offset of four bytes and a length of two. The lowest byte of each number
+-- comes first.
 unfoldable pub pair_at : List ℕ → ℕ → Pair
 pair_at file place =
-    let at = 2 + 6 * place in
+    let at = head_bytes place in
     record { offset = from_le_bytes w32 (drop at file); length = from_le_bytes w16 (drop (at + 4) file) }
 
 -- the first byte past a line
 abbrev pub end_of : Pair → ℕ
 end_of p = p.offset + p.length
 
--- a pair's line has 30 to 110 bytes, starts no earlier than `start` and ends within the file
+-- a pair's line has all its fields and no more bytes than a line can have, starts no earlier than `start` and ends
+-- within the file
 abbrev pub fits : ℕ → ℕ → Pair → Bool
-fits size start p = nat_le start p.offset && (nat_le 30 p.length && (nat_le p.length 110 && nat_le (end_of p) size))
+fits size start p =
+    nat_le start p.offset
+    && (nat_le field_bytes p.length && (nat_le p.length most_line && nat_le (end_of p) size))
 
 -- Of n pairs from `place` on, the first that does not fit. No pair starts before the end of the one ahead,
 -- and the first not before `start`.
@@ -43,6 +53,7 @@ abbrev pub of_line : ℕ → Result Line FieldFault → Result Line LineFault
 of_line place (Ok line) = Ok line
 of_line place (Err field) = Err (record { place = place; field = field })
 
+-- the line at a place, or what breaks its form
 unfoldable pub line_at : List ℕ → ℕ → Result Line LineFault
 line_at file place = of_line place (line_of (part file (pair_at file place)))
 
@@ -52,12 +63,13 @@ lines_from file place zero = Ok []
 lines_from file place (suc n) =
     then (line_at file place) (λ line. then (lines_from file (place + 1) n) (λ lines. Ok (line ∷ lines)))
 
--- A file has 2 to 65,535 bytes. Its line count, of two bytes, is 1 to 1,024, and as many pairs follow.
+-- A file has room for a line count and no more bytes than a file can have. There is a line and no more than a file can
+-- have, and as many pairs follow.
 unfoldable pub count : List ℕ → Result ℕ RequestRefusal
 count file =
     let n = from_le_bytes w16 file in
-    cond (nat_lt (length file) 2 || nat_lt 65535 (length file)) (Err refusal.FileLength)
-    (cond (n == 0 || (nat_lt 1024 n || nat_lt (length file) (2 + 6 * n))) (Err refusal.LineCount) (Ok n))
+    cond (nat_lt (length file) count_bytes || nat_lt most_file (length file)) (Err refusal.FileLength)
+    (cond (n == 0 || (nat_lt most_lines n || nat_lt (length file) (head_bytes n))) (Err refusal.LineCount) (Ok n))
 
 -- a pair's or a line's fault as the file's
 abbrev pub as_refusal : {A E : Type 0} → (E → RequestRefusal) → Result A E → Result A RequestRefusal
@@ -67,14 +79,18 @@ as_refusal f (Err e) = Err (f e)
 -- All pairs are judged before any line; the first starts no earlier than the end of the pairs.
 abbrev pub lines_of : List ℕ → ℕ → Result (List Line) RequestRefusal
 lines_of file n =
-    then (as_refusal refusal.Pair (pairs_from file (2 + 6 * n) 0 n)) (λ _.
+    then (as_refusal refusal.Pair (pairs_from file (head_bytes n) 0 n)) (λ _.
     as_refusal refusal.Line (lines_from file 0 n))
 
 -- the lines of a file, or its first fault
 abbrev pub meaning : List ℕ → Result (List Line) RequestRefusal
 meaning file = then (count file) (lines_of file)
 
--- what a reader into a table answers: a table with fewer places than lines is a fault right after the count's
+-- the lines of a file, none where it has a fault
+abbrev pub lines_in : List ℕ → List Line
+lines_in file = result_unwrap_or (meaning file) []
+
+-- what a reader into a table finds: a table with fewer places than lines is a fault right after the count's
 abbrev pub reading : List ℕ → ℕ → Result (List Line) RequestRefusal
 reading file places = then (count file) (λ n. cond (nat_lt places n) (Err refusal.Table) (lines_of file n))
 
@@ -88,16 +104,16 @@ abbrev pub counted : {E : Type 0} → Result (List Line) E → Result ℕ E
 counted (Ok lines) = Ok (length lines)
 counted (Err fault) = Err fault
 
--- The table after reading: the lines in its first places, the other places as they were.
--- A declined call writes nothing.
+-- The table after reading: the lines in its first places, the other places as they were. Of a file that is refused
+-- nothing is written.
 abbrev pub written : {E : Type 0} → Result (List Line) E → List Line → List Line
 written (Ok lines) table = lines ++ drop (length lines) table
 written (Err fault) table = table
 
--- The remark is what follows byte 30 of a line, and starts there;
--- a line of 30 bytes has an empty one at its end.
+-- The remark is what follows the space behind a line's fields, and starts there; a line without that space has an
+-- empty one at its end.
 abbrev pub remark_start : Pair → ℕ
-remark_start p = cond (nat_lt 30 p.length) (p.offset + 31) (end_of p)
+remark_start p = cond (nat_lt field_bytes p.length) (p.offset + (field_bytes + 1)) (end_of p)
 
 -- that part of the file's bytes, with its offset in the file
 abbrev pub remark_of : List ℕ → Pair → List ℕ × ℕ
@@ -108,5 +124,6 @@ abbrev pub remark_if : List ℕ → ℕ → Result (List Line) RequestRefusal �
 remark_if file place (Ok lines) = cond (nat_lt place (length lines)) (Some (remark_of file (pair_at file place))) None
 remark_if file place (Err fault) = None
 
+-- the remark of a file's line at a place, and its offset in the file
 abbrev pub remark_at : List ℕ → ℕ → Option (List ℕ × ℕ)
 remark_at file place = remark_if file place (meaning file)

@@ -1,12 +1,13 @@
-// The fields of a line: numbers of a fixed width, single spaces between them, two letters.
+//! The fields of a line: numbers of a fixed width, single spaces between them, two letters.
 ghost use Rattle.std.specs.Prelude.{◌≡◌, ◌+◌, ◌^◌, ◌<◌, ◌≤◌, length, IfOk};
 ghost use Rattle.requests.specs.Form.{with_digit, number_at, space_at, line_of};
+ghost use Rattle.requests.specs.Limits.{field_bytes};
 
 use crate::fault::FieldFault;
-use crate::limits::FIELDS;
+use crate::limits::{ACCOUNT_DIGITS, CLASS_DIGITS, FIELD_BYTES, PERCENTAGE_DIGITS, SAVINGS_DIGITS};
 use accounts::record::{Kind, Line, Size};
 
-// One digit more: the number so far times ten, plus the digit.
+/// The number so far with one digit more behind it.
 fn with_digit(gathered: u64, byte: u8) -> Result<u64, FieldFault>
     requires { gathered < 10 ^ 18 }
     ensures { result ≡ with_digit gathered byte }
@@ -15,8 +16,7 @@ fn with_digit(gathered: u64, byte: u8) -> Result<u64, FieldFault>
     Ok(gathered * 10 + u64::from(digit))
 }
 
-// The number that the `width` bytes from `at` on write.
-// Other readers of digits each have a rule for a number that is too large; here the width bounds it.
+/// The number that the `width` bytes from `at` on write.
 fn number(line: &[u8], at: usize, width: usize) -> Result<u64, FieldFault>
     requires within { at + width ≤ length line.now }
     requires fits { width ≤ 18 }
@@ -41,25 +41,24 @@ fn space(line: &[u8], at: usize) -> Result<(), FieldFault>
     }
 }
 
-// The line that its bytes write: thirty of them, and in a longer line a space before the remark.
+/// The line that its bytes write: its fields, and in a longer line a space before the remark.
 pub fn fields(line: &[u8]) -> Result<Line, FieldFault>
-    requires { 30 ≤ length line.now }
+    requires { field_bytes ≤ length line.now }
     ensures { result ≡ line_of line.now }
 {
-    // places and widths are numbers as in the definition: the reader goes by places, the writer by a format
-    let account = number(line, 0, 11)?;
+    let account = number(line, 0, ACCOUNT_DIGITS)?;
     space(line, 11)?;
-    let percentage = number(line, 12, 6)? as u32;
+    let percentage = number(line, 12, PERCENTAGE_DIGITS)? as u32;
     space(line, 18)?;
-    let savings = number(line, 19, 4)? as u16;
+    let savings = number(line, 19, SAVINGS_DIGITS)? as u16;
     space(line, 23)?;
-    let class = number(line, 24, 2)? as u8;
+    let class = number(line, 24, CLASS_DIGITS)? as u8;
     space(line, 26)?;
     let size = Size::try_from(line[27])?;
     space(line, 28)?;
     let kind = Kind::try_from(line[29])?;
-    if line.len() > FIELDS {
-        space(line, FIELDS)?;
+    if line.len() > FIELD_BYTES {
+        space(line, FIELD_BYTES)?;
     }
     Ok(Line {
         account,

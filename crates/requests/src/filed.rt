@@ -1,9 +1,11 @@
-// What a host files for one account.
+//! What a host files for one account.
 use accounts::record::Line;
 
-// A line and the remark behind it, empty for none.
+/// A line and the remark behind it.
 #[derive(Clone, Copy)]
-pub struct Entry<'a> {
+pub struct FiledLine<'a> {
+    /// What is asked for the account. Its numbers may be out of range.
     pub line: Line,
+    /// The remark's bytes, none for no remark.
     pub remark: &'a [u8],
 }

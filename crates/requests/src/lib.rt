@@ -1,11 +1,17 @@
-// Request files: how a host asks for allocations. The reader fills a table that the caller lends,
-// and hands out a line's remark as a part of the file's own bytes. Nothing here allocates.
+//! Request files, by which a host asks for allocations: reading one into a lent table or an owned list, asking an
+//! opened one for a line or a remark by its place, and packing lines into one.
 #![tactic(auto)]
 
 pub mod fault;
 mod field;
+pub mod file;
+pub mod filed;
 pub mod limits;
 mod lines;
+mod pack;
+pub mod packing;
 mod pairs;
 pub mod reader;
 pub mod remark;
+mod text;
+pub mod writer;

@@ -1,23 +1,24 @@
-// Why lines cannot be packed into a request file.
+//! Why lines cannot be packed into a request file.
 ghost use Rattle.std.specs.Prelude.{◌≡◌, Some};
-ghost use Rattle.requests.specs.Reasons.{write_reason_of};
+ghost use Rattle.requests.specs.Refusals.{write_reason_of};
 ghost use Rattle.requests.specs.declared.packing.WriteRefusal.TheVariants.{Memory};
 
 use std::alloc::AllocError;
 use std::error::Error;
 use std::fmt;
 
+/// Why lines are not packed: the first case that applies, `Number` and `Remark` by the first line at fault.
 #[derive(Clone, Copy, PartialEq, Eq, Debug)]
 pub enum WriteRefusal {
-    // no line, or over 1,024
+    /// There is no line, or there are over 1,024.
     LineCount,
-    // a number has more digits than its field; the line's place, from 0
+    /// A number has more digits than its field; the place is the line's, counted from 0.
     Number { place: usize },
-    // a remark has over 79 bytes; the line's place, from 0
+    /// A remark has over 79 bytes; the place is the line's, counted from 0.
     Remark { place: usize },
-    // the file would have over 65,535 bytes
+    /// The file would have over 65,535 bytes.
     FileLength,
-    // no memory for the file
+    /// A file can hold the lines, and there is no memory for it.
     Memory,
 }
 
@@ -38,9 +39,9 @@ impl fmt::Display for WriteRefusal {
 impl Error for WriteRefusal {}
 
 impl From<AllocError> for WriteRefusal {
-    ghost from_gives = { λ _ r. r ≡ Memory };
+    ghost from_gives = { λ _ refusal. refusal ≡ Memory };
 
-    fn from(_fault: AllocError) -> Self {
+    fn from(_none: AllocError) -> Self {
         Self::Memory
     }
 }

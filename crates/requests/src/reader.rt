@@ -1,61 +1,46 @@
-// Reading a request file, and the remark of one of its lines.
-ghost use Rattle.std.specs.Prelude.{◌≡◌, ◌+◌, ◌<◌, length, IfOk};
+//! Reading a request file: its lines into a lent table or an owned list, and the remark of one of its lines.
+ghost use Rattle.std.specs.Prelude.{◌≡◌, length, MatchResult, Ok};
 ghost use Rattle.std.specs.Option.{option_map};
-ghost use Rattle.std.specs.Result.{result_map_both};
-ghost use Rattle.requests.specs.Meaning.{reading, counted, written, remark_at};
+ghost use Rattle.requests.specs.Meaning.{meaning, reading, counted, written, remark_at};
+ghost use Rattle.requests.specs.Reading.{Declines};
 
-use crate::fault::RequestRefusal;
-use crate::limits::{FIELDS, MAX_LINES};
-use crate::lines::PairedFile;
-use crate::pairs::{check_pairs, line_count, read_pair};
+use crate::fault::{ReadError, RequestRefusal};
+use crate::file::RequestFile;
+use crate::pairs::line_count;
 use crate::remark::Remark;
 use accounts::record::Line;
+use std::alloc::Global;
 
-// The file, if it is in order and its lines fit as many places.
-fn judge<'a>(file: &'a [u8], places: usize) -> Result<PairedFile<'a>, RequestRefusal>
-    ensures lines { result_map_both (λ paired. paired.lines) (λ e. e) result ≡ counted (reading file.now places) }
-    ensures file { IfOk result (λ paired. paired.file.now ≡ file.now) }
-{
-    let lines = line_count(file)?;
-    if places < lines {
-        return Err(RequestRefusal::Table);
-    }
-    check_pairs(file, lines)?;
-    let paired = PairedFile { file, lines };
-    paired.check()?;
-    Ok(paired)
-}
-
-// Writes the file's lines to the first places of the table and answers how many there are.
-// The other places stay; a declined call writes nothing.
-// Nothing here allocates, so the caller lends the table and is answered a count.
+/// Writes the file's lines to the first places of the table and answers how many there are: 1 to
+/// [`MOST_LINES`](base::limits::MOST_LINES). The other places stay as they are, and all do where the file is refused,
+/// with its first fault. A table with too few places is judged right after the line count. Nothing is allocated.
 pub fn read(file: &[u8], table: &mut [Line]) -> Result<usize, RequestRefusal>
     ensures answer { result ≡ counted (reading file.now (length table.old)) }
     ensures table { table.new ≡ written (reading file.now (length table.old)) table.old }
 {
-    let paired = judge(file, table.len())?;
-    paired.write(table);
-    Ok(paired.lines)
+    let lines = line_count(file)?;
+    if table.len() < lines {
+        return Err(RequestRefusal::Table);
+    }
+    let request = RequestFile::judge(file, lines)?;
+    request.write(table);
+    Ok(lines)
 }
 
-// The remark of the line at a place, or nothing where the file is not in order or has no such line.
-#[tactic(auto, using(crate::proofs::Readings::reading_all))]
-pub fn remark<'a>(file: &'a [u8], place: usize) -> Option<Remark<'a>>
-    ensures { option_map (λ m. (m.text.now, m.offset)) result ≡ remark_at file.now place }
+/// The file's lines in a list, or its first fault; or [`ReadError::NoMemory`], which no file that is refused meets.
+pub fn read_lines(file: &[u8], heap: Global) -> Result<Vec<Line>, ReadError>
+    ensures { MatchResult result (λ lines. meaning file.now ≡ Ok lines.items) (λ e. Declines file.now e) }
 {
-    let paired = judge(file, MAX_LINES).ok()?;
-    if place >= paired.lines {
-        return None;
-    }
-    let pair = read_pair(file, place);
-    let end = pair.end();
-    let start = if pair.length as usize > FIELDS {
-        pair.start() + FIELDS + 1
-    } else {
-        end
-    };
-    Some(Remark {
-        text: &file[start..end],
-        offset: start,
-    })
+    let request = RequestFile::open(file)?;
+    let list = request.to_vec(heap)?;
+    Ok(list)
+}
+
+/// The remark of the line at a place, counted from 0; none where the file is not in order or has no such line. To ask
+/// for several, open the file once as a [`RequestFile`].
+pub fn remark<'a>(file: &'a [u8], place: usize) -> Option<Remark<'a>>
+    ensures { option_map (λ found. (found.text.now, found.offset)) result ≡ remark_at file.now place }
+{
+    let request = RequestFile::open(file).ok()?;
+    request.remark(place)
 }

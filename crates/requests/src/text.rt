@@ -1,14 +1,14 @@
-// The bytes of a file, pushed piece by piece.
-ghost use Rattle.std.specs.Prelude.{◌≡◌, ◌+◌, ◌<◌, ◌≤◌, ◌++◌, length, OnOk, IfOk, IsTrue, string_bytes};
-ghost use Rattle.requests.specs.Packing.{form, item, text, holds};
+//! The bytes of a line, pushed piece by piece.
+ghost use Rattle.std.specs.Prelude.{◌≡◌, ◌≤◌, ◌++◌, length, OnOk, IfOk, IsTrue, string_bytes};
+ghost use Rattle.requests.specs.Limits.{most_file};
+ghost use Rattle.requests.specs.Packing.{form, item, text, has_digits, holds};
 
-use crate::entry::Entry;
+use crate::filed::FiledLine;
+use crate::limits::{ACCOUNT_DIGITS, CLASS_DIGITS, FIELD_BYTES, PERCENTAGE_DIGITS, SAVINGS_DIGITS};
 use accounts::record::Line;
-use requests::limits::FIELDS;
 use std::alloc::{AllocError, Global};
 
-// The thirty bytes of a line's fields.
-// That its numbers fit is a premise, here and where it is handed on: a type would need a copy of the lent entries.
+/// The bytes of a line's fields.
 #[tactic(auto, using(crate::proofs::Padded::form_padded))]
 fn form_text(line: &Line, heap: Global) -> Result<String, AllocError>
     requires { IsTrue (holds line.now) }
@@ -22,43 +22,53 @@ fn form_text(line: &Line, heap: Global) -> Result<String, AllocError>
         size,
         kind,
     } = *line;
-    // each width stands once here, in the format; the reader goes by places
-    format!(in heap; "{account:011} {percentage:06} {savings:04} {class:02} {size} {kind}")
+    format!(in heap;
+        "{account:0ACCOUNT_DIGITS$} {percentage:0PERCENTAGE_DIGITS$} {savings:0SAVINGS_DIGITS$} {class:0CLASS_DIGITS$} {size} {kind}"
+    )
 }
 
-// The fields, and behind them a space and the remark unless it is empty.
+/// Pushes the fields, and behind them a space and the remark unless it is empty.
 #[tactic(auto, using(crate::proofs::Texts::behind_none, crate::proofs::Texts::behind_some), unfolding(crate::specs::Packing::text))]
-pub fn push_text(file: &mut Vec<u8>, entry: &Entry) -> Result<(), AllocError>
-    requires { IsTrue (holds entry.now.line) }
-    ensures { OnOk result (file.new.items ≡ file.old.items ++ text (item entry.now)) }
+pub fn push_text(file: &mut Vec<u8>, filed_line: &FiledLine) -> Result<(), AllocError>
+    requires { IsTrue (holds filed_line.now.line) }
+    ensures { OnOk result (file.new.items ≡ file.old.items ++ text (item filed_line.now)) }
 {
-    let form = form_text(&entry.line, *file.allocator())?;
+    let form = form_text(&filed_line.line, *file.allocator())?;
     file.extend_from_slice(form.as_bytes())?;
-    if !entry.remark.is_empty() {
+    if !filed_line.remark.is_empty() {
         file.push(b' ')?;
-        file.extend_from_slice(entry.remark)?;
+        file.extend_from_slice(filed_line.remark)?;
     }
     Ok(())
 }
 
-// Whether each number has at most the digits of its field.
+/// Whether a number has at most so many digits.
+fn has_digits(digits: usize, number: u64) -> bool
+    requires { digits ≤ 18 }
+    ensures { result ≡ has_digits digits number }
+{
+    number < 10_u64.pow(digits as u32)
+}
+
+/// Whether each number has at most the digits of its field.
 pub fn numbers_fit(line: &Line) -> bool
     ensures { result ≡ holds line.now }
 {
-    line.account < 100_000_000_000
-        && line.percentage < 1_000_000
-        && line.savings < 10_000
-        && line.class < 100
+    has_digits(ACCOUNT_DIGITS, line.account)
+        && has_digits(PERCENTAGE_DIGITS, line.percentage as u64)
+        && has_digits(SAVINGS_DIGITS, line.savings as u64)
+        && has_digits(CLASS_DIGITS, line.class as u64)
 }
 
+/// How many bytes a line has with its remark.
 #[tactic(auto, using(crate::proofs::Texts::length_text, crate::proofs::Texts::behind_none, crate::proofs::Texts::behind_some))]
-pub fn text_length(entry: &Entry) -> usize
-    requires { length entry.now.remark.now < 65536 }
-    ensures { result ≡ length (text (item entry.now)) }
+pub fn text_length(filed_line: &FiledLine) -> usize
+    requires { length filed_line.now.remark.now ≤ most_file }
+    ensures { result ≡ length (text (item filed_line.now)) }
 {
-    if entry.remark.is_empty() {
-        FIELDS
+    if filed_line.remark.is_empty() {
+        FIELD_BYTES
     } else {
-        FIELDS + 1 + entry.remark.len()
+        FIELD_BYTES + 1 + filed_line.remark.len()
     }
 }

@@ -1,20 +1,22 @@
-// Packing lines with their remarks into a request file.
+//! Packing lines with their remarks into a request file.
 ghost use Rattle.std.specs.Prelude.{◌≡◌, map, IfOk, IfErr, Ok, MatchResult};
 ghost use Rattle.requests.specs.Packing.{item, packing, Refuses, Unheld, ReadsBack};
 
-use crate::entry::Entry;
+use crate::filed::FiledLine;
 use crate::pack::{check, pack};
-use crate::refusal::WriteRefusal;
+use crate::packing::WriteRefusal;
 use std::alloc::Global;
 
-// The request file of some lines with their remarks. Reading it gives back both.
-// Where it is refused, but for want of memory, no file reads so.
-pub fn write(entries: &[Entry], heap: Global) -> Result<Vec<u8>, WriteRefusal>
-    ensures packs { MatchResult result (λ file. packing (map item entries.now) ≡ Ok file.items) (λ e. Refuses (map item entries.now) e) }
-    ensures only { IfErr result (Unheld (map item entries.now)) }
-    ensures reads_back { IfOk result (λ file. ReadsBack file.items (map item entries.now)) }
+/// The request file of some lines with their remarks: reading it gives back both. Where it is refused for any reason but
+/// want of memory, no file reads so.
+pub fn write(lines: &[FiledLine], heap: Global) -> Result<Vec<u8>, WriteRefusal>
+    ensures packs { MatchResult result
+        (λ file. packing (map item lines.now) ≡ Ok file.items)
+        (λ e. Refuses (map item lines.now) e) }
+    ensures only { IfErr result (Unheld (map item lines.now)) }
+    ensures reads_back { IfOk result (λ file. ReadsBack file.items (map item lines.now)) }
 {
-    let size = check(entries)?;
-    let file = pack(entries, size, heap)?;
+    let size = check(lines)?;
+    let file = pack(lines, size, heap)?;
     Ok(file)
 }

@@ -1,13 +1,16 @@
-use Rattle.std.proofs.Common.{length}
-use Rattle.requests.proofs.Readings.{in_order}
+use Rattle.std.proofs.Common.{sym, arith}
+use Rattle.std.proofs.lemmas.Grind.{common_steps}
+use Rattle.std.proofs.lemmas.Bool.Decides.{nat_tests}
+use Rattle.requests.specs.Meaning.{lines_in}
+use Rattle.requests.proofs.Readings.{length_lines_of}
 use Rattle.requests.proofs.reader.read.Goals as goal
 
 pub write-requires : goal.write-requires
 write-requires c =
-    let o = in_order c.args.file.now (length c.args.table.now) c.in_ok-paired.paired.lines c.in_ok-paired.ensures.lines in
-    record { room = o.room; formed = rw c.in_ok-paired.ensures.file o.formed }
+    let long = length_lines_of _ _ _ (sym c.in_ok-request.ensures.lines) in
+    omega arith
 
-pub returns-clause-table : goal.returns-clause-table
-returns-clause-table c =
-    let o = in_order c.args.file.now (length c.args.table.now) c.in_ok-paired.paired.lines c.in_ok-paired.ensures.lines in
-    rw (c.write.ensures, c.in_ok-paired.ensures.file) (o.writes c.args.table.now)
+pub returns-clause-answer : goal.returns-clause-answer
+returns-clause-answer c =
+    let long = length_lines_of _ _ _ (sym c.in_ok-request.ensures.lines) in
+    grind (arith, common_steps, nat_tests)

@@ -6,7 +6,7 @@ use Rattle.requests.proofs.writer.write.Goals as goal
 
 pub returns-in_err-size-clause-only : goal.returns-in_err-size-clause-only
 returns-in_err-size-clause-only c =
-    let es = map item c.args.entries.now in
+    let es = map item c.args.lines.now in
     let e = c.in_err-size.field-0.0 in
     let why : Refuses es e = inl (grind arith) in
     let unheld = refused_unheld es e why in
