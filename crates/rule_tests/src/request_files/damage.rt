@@ -1,13 +1,8 @@
-// One file of three lines, damaged byte by byte.
-use super::files::{changed, told};
+//! One file of three lines, damaged byte by byte.
+use super::files::{FILE, LINES, REMARKS, changed, outcome};
 use accounts::record::{Kind, Line, Size};
 use requests::reader::{read, remark};
 use std::test::Fail;
-
-// Three lines at 20, 52 and 93: one without a remark, one with, one with an empty one behind byte 30.
-// Two bytes between lines and one at the end belong to none.
-const FILE: &[u8] =
-    b"\x03\x00\x14\x00\x00\x00\x1e\x00\x34\x00\x00\x00\x29\x00\x5d\x00\x00\x00\x1f\x0020010000001 010000 1000 02 S M??00000000007 100000 9800 16 L X north roof99999999999 999999 9999 99 S X !";
 
 // not the default line: a default line written to another place would be seen
 const BLANK: Line = Line {
@@ -19,7 +14,7 @@ const BLANK: Line = Line {
     kind: Kind::Anchor,
 };
 
-// A place, the byte put there, and how many lines are read, or the refusal's number and place, each case on one line.
+// A place, the byte put there, and how many lines are read, or the refusal's number and place.
 const DAMAGES: [(usize, u8, Result<usize, (u8, usize)>); 48] = [
     (0, 0, Err((2, 0))),
     (1, 4, Err((2, 0))),
@@ -76,7 +71,7 @@ fn damaged_bytes(rt: HostRuntime) -> Result<(), Fail> {
     for (at, byte, expected) in DAMAGES {
         let file = changed(rt.alloc(), FILE, at, byte)?;
         let mut table = [BLANK; 3];
-        let answer = told(read(file.as_slice(), &mut table));
+        let answer = outcome(read(file.as_slice(), &mut table));
         assert_eq!(rt; answer, expected);
         if answer.is_err() {
             assert_eq!(rt; table, [BLANK; 3]);
@@ -87,38 +82,14 @@ fn damaged_bytes(rt: HostRuntime) -> Result<(), Fail> {
 
 #[test]
 fn lines_and_other_places(rt: HostRuntime) {
-    let first = Line {
-        account: 20_010_000_001,
-        percentage: 10_000,
-        savings: 1_000,
-        class: 2,
-        size: Size::Small,
-        kind: Kind::Member,
-    };
-    let second = Line {
-        account: 7,
-        percentage: 100_000,
-        savings: 9_800,
-        class: 16,
-        size: Size::Large,
-        kind: Kind::Anchor,
-    };
-    let third = Line {
-        account: 99_999_999_999,
-        percentage: 999_999,
-        savings: 9_999,
-        class: 99,
-        size: Size::Small,
-        kind: Kind::Anchor,
-    };
     let mut table = [BLANK; 5];
     assert_eq!(rt; read(FILE, &mut table).ok(), Some(3));
-    assert_eq!(rt; table, [first, second, third, BLANK, BLANK]);
+    assert_eq!(rt; table, [LINES[0], LINES[1], LINES[2], BLANK, BLANK]);
 }
 
 #[test]
 fn remarks(rt: HostRuntime) -> Result<(), Fail> {
-    for (place, text, offset) in [(0, "", 50), (1, "north roof", 83), (2, "", 124)] {
+    for (place, text, offset) in REMARKS {
         let found = remark(FILE, place).ok_or("no remark")?;
         assert!(rt; found.text == text.as_bytes());
         assert_eq!(rt; found.offset, offset);
@@ -135,6 +106,6 @@ fn pairs_before_lines(rt: HostRuntime) -> Result<(), Fail> {
     let file = changed(rt.alloc(), FILE, 20, b'x')?;
     let file = changed(rt.alloc(), file.as_slice(), 18, 111)?;
     let mut table = [BLANK; 3];
-    assert_eq!(rt; told(read(file.as_slice(), &mut table)), Err((4, 2)));
+    assert_eq!(rt; outcome(read(file.as_slice(), &mut table)), Err((4, 2)));
     Ok(())
 }

@@ -1,10 +1,10 @@
-// Files at the limits: the longest, the shortest, and those with the most lines.
-use super::files::{changed, told};
+//! Files at the limits: the longest, the shortest, and those with the most lines.
+use super::files::{changed, outcome};
 use accounts::record::{Kind, Line, Size};
 use requests::filed::FiledLine;
 use requests::packing::WriteRefusal;
-use requests::writer::write;
 use requests::reader::{read, remark};
+use requests::writer::write;
 use std::test::Fail;
 
 const LINE: Line = Line {
@@ -19,16 +19,16 @@ const LINE: Line = Line {
 #[test]
 fn most_lines(rt: HostRuntime) -> Result<(), Fail> {
     let heap = rt.alloc();
-    let entries = [Entry {
+    let lines = [FiledLine {
         line: LINE,
         remark: b"",
     }; 1024];
-    let file = write(&entries, heap)?;
+    let file = write(&lines, heap)?;
     let bytes = file.as_slice();
     assert_eq!(rt; bytes.len(), 2 + 36 * 1024);
     let mut table = [LINE; 1024];
-    assert_eq!(rt; told(read(bytes, &mut table)), Ok(1024));
-    assert_eq!(rt; told(read(bytes, &mut table[0..1023])), Err((3, 0)));
+    assert_eq!(rt; outcome(read(bytes, &mut table)), Ok(1024));
+    assert_eq!(rt; outcome(read(bytes, &mut table[0..1023])), Err((3, 0)));
     // the pair at place p starts at 2 + 6 p, and its line at 6,146 + 30 p
     for (at, byte, expected) in [
         (0, 1, (2, 0)),
@@ -39,23 +39,26 @@ fn most_lines(rt: HostRuntime) -> Result<(), Fail> {
         (36_865, b'Y', (5, 1_023)),
     ] {
         let damaged = changed(heap, bytes, at, byte)?;
-        assert_eq!(rt; told(read(damaged.as_slice(), &mut table)), Err(expected));
+        assert_eq!(rt;
+            outcome(read(damaged.as_slice(), &mut table)),
+            Err(expected)
+        );
     }
     Ok(())
 }
 
 #[test]
 fn longest(rt: HostRuntime) -> Result<(), Fail> {
-    let entries = [Entry {
+    let lines = [FiledLine {
         line: LINE,
         remark: b"roof",
     }];
-    let mut file = write(&entries, rt.alloc())?;
+    let mut file = write(&lines, rt.alloc())?;
     for (length, expected) in [(65_535, Ok(1)), (65_536, Err((1, 0)))] {
         file.resize(length, 0)?;
         assert_eq!(rt; file.len(), length);
         let mut table = [LINE; 1];
-        assert_eq!(rt; told(read(file.as_slice(), &mut table)), expected);
+        assert_eq!(rt; outcome(read(file.as_slice(), &mut table)), expected);
         assert_eq!(rt; remark(file.as_slice(), 0).is_some(), expected.is_ok());
     }
     Ok(())
@@ -67,21 +70,24 @@ fn shortest(rt: HostRuntime) {
     let pair = b"\x01\x00\x08\x00\x00\x00\x1e\x00";
     for (length, number) in [(0, 1), (1, 1), (2, 2), (7, 2), (8, 4)] {
         let mut table = [LINE; 1];
-        assert_eq!(rt; told(read(&pair[0..length], &mut table)), Err((number, 0)));
+        assert_eq!(rt;
+            outcome(read(&pair[0..length], &mut table)),
+            Err((number, 0))
+        );
     }
 }
 
 #[test]
 fn what_no_file_holds(rt: HostRuntime) {
-    let good = Entry {
+    let good = FiledLine {
         line: LINE,
         remark: &[b'r'; 79],
     };
-    let wide = Entry {
+    let wide = FiledLine {
         line: Line { class: 100, ..LINE },
         remark: b"",
     };
-    let long = Entry {
+    let long = FiledLine {
         line: LINE,
         remark: &[b'r'; 80],
     };
@@ -95,17 +101,17 @@ fn what_no_file_holds(rt: HostRuntime) {
 // Lines of 110 bytes: 564 of them make 2 + 564 x 116 = 65,426 bytes, and one more passes the limit.
 #[test]
 fn how_many_lines(rt: HostRuntime) {
-    let entries = [Entry {
+    let lines = [FiledLine {
         line: LINE,
         remark: &[b'r'; 79],
     }; 1025];
-    for (lines, refusal) in [
+    for (count, refusal) in [
         (0, Some(WriteRefusal::LineCount)),
         (564, None),
         (565, Some(WriteRefusal::FileLength)),
         (1024, Some(WriteRefusal::FileLength)),
         (1025, Some(WriteRefusal::LineCount)),
     ] {
-        assert_eq!(rt; write(&entries[0..lines], rt.alloc()).err(), refusal);
+        assert_eq!(rt; write(&lines[0..count], rt.alloc()).err(), refusal);
     }
 }

@@ -1,0 +1,6 @@
+//! Tables of good and damaged request files.
+
+mod damage;
+mod files;
+mod limits;
+mod opened;
