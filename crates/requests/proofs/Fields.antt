@@ -26,13 +26,16 @@ digits_back (suc w) n rest h =
     subst (λ bs. (all_digits bs 0 (suc w) ≡ true) × (number bs 0 (suc w) ≡ n)) (sym split)
     (rw (zero-add w, last, front.0, front.1) (digit_true d (omega arith) (omega arith), omega arith))
 
+-- a number that was written reads as it was
 number_back : (w n : ℕ) (rest : List ℕ) → n < 10 ^ w → number_at (digits w n ++ rest) 0 w ≡ Ok n
 number_back w n rest h = let d = digits_back w n rest h in rw (d.0, d.1)
 
+-- the letter of a size reads as that size
 size_back : (s : Size) → letter (size_of (size_letter s)) ≡ Ok s
 size_back Small = refl
 size_back Large = refl
 
+-- the letter of a kind reads as that kind
 kind_back : (k : Kind) → letter (kind_of (kind_letter k)) ≡ Ok k
 kind_back Member = refl
 kind_back Anchor = refl
@@ -44,6 +47,7 @@ pub record Widths (l : Line) : Type 0 where
   pub savings : l.savings < 10 ^ 4
   pub class : l.class < 10 ^ 2
 
+-- what the test of the numbers says of each
 pub widths : (l : Line) → holds l ≡ true → Widths l
 widths l h = record {
   account = grind (arith, nat_tests);

@@ -28,10 +28,12 @@ remark_room file p (b ∷ r) h long =
     let most = simp length-take at (ap length h) in
     grind (arith, nat_tests)
 
+-- a remark that fits a line has at most 79 bytes
 remark_short : (r : List ℕ) → length (behind r) ≤ 80 → length r ≤ 79
 remark_short [] h = omega arith
 remark_short (b ∷ r) h = omega arith
 
+-- a line in order before lines in order
 items_join : (p : ℕ) (e : Item) (es : List Item) → holds e.0 ≡ true → length e.1 ≤ 79 → items_from (p + 1) es ≡ Ok tt → items_from p (e ∷ es) ≡ Ok tt
 unfolding items_from
 items_join p e es h r rest = grind (arith, nat_tests)
@@ -44,6 +46,7 @@ record Pairs (file : List ℕ) (start k n : ℕ) : Type 0 where
   inside : end_of (pair_at file k) ≤ length file
   others : pairs_from file (end_of (pair_at file k)) (k + 1) n ≡ Ok tt
 
+-- pairs that fit, the first and the others
 pairs_split : (file : List ℕ) (start k n : ℕ) → pairs_from file start k (suc n) ≡ Ok tt → Pairs file start k n
 unfolding pairs_from
 pairs_split file start k n h = record {
@@ -54,10 +57,12 @@ pairs_split file start k n h = record {
   others = grind (arith, nat_tests);
 }
 
+-- a line that was read can be packed
 line_holds : (file : List ℕ) (k : ℕ) (l : Line) → line_at file k ≡ Ok l → holds l ≡ true
 unfolding line_at
 line_holds file k l h = line_small (part file (pair_at file k)) l (grind (arith, nat_tests))
 
+-- each line has its remark
 Remarks : List ℕ → ℕ → List Item → Type 0
 Remarks file k es = (i : ℕ) (d : Item) → i < length es → (remark_of file (pair_at file (k + i))).0 ≡ (get_or es i d).1
 
@@ -76,8 +81,9 @@ holding file start k p (e ∷ es) pairs lines remarks low =
       omega (arith, total, rest.1, length_text e, f.after),
     )
 
-remark_told : (file r : List ℕ) (place : ℕ) (ls : List Line) → meaning file ≡ Ok ls → place < length ls → option_map (λ found. found.0) (remark_at file place) ≡ Some r → (remark_of file (pair_at file place)).0 ≡ r
-remark_told file r place ls means l h = let k = rw (means, lt-ltb place (length ls) l) at h in cc
+-- the remark that a file shows at a place is that of the pair there
+remark_is : (file r : List ℕ) (place : ℕ) (ls : List Line) → meaning file ≡ Ok ls → place < length ls → option_map (λ found. found.0) (remark_at file place) ≡ Some r → (remark_of file (pair_at file place)).0 ≡ r
+remark_is file r place ls means l h = let k = rw (means, lt-ltb place (length ls) l) at h in cc
 
 -- whatever a file holds can be packed
 pub packs_all : (file : List ℕ) (es : List Item) → ReadsBack file es → packing es ≡ Ok (file_of es)
@@ -87,7 +93,7 @@ packs_all file es back =
     let n = length es in
     let long : length ls ≡ n = length-map es (λ e. e.0) in
     let m = subst (λ k. Meant file k ls) long (meant file ls back.lines) in
-    let remarks : (i : ℕ) (d : Item) → i < n → (remark_of file (pair_at file (0 + i))).0 ≡ (get_or es i d).1 = λ i d l. rw zero-add (remark_told file (get_or es i d).1 i ls back.lines (omega arith) (back.remarks i d l)) in
+    let remarks : (i : ℕ) (d : Item) → i < n → (remark_of file (pair_at file (0 + i))).0 ≡ (get_or es i d).1 = λ i d l. rw zero-add (remark_is file (get_or es i d).1 i ls back.lines (omega arith) (back.remarks i d l)) in
     let head = count_ok file n m.counts in
     let held = holding file (2 + 6 * n) 0 0 es m.placed m.formed remarks head.within in
     let short : length (file_of es) ≤ 65535 = omega (arith, length_file es, held.1, head.limit) in

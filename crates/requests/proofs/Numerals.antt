@@ -5,9 +5,11 @@ use Rattle.std.proofs.lemmas.Bool.{and_left, and_right, cases_order}
 use Rattle.std.proofs.lemmas.Bool.Decides.{nat_tests}
 use Rattle.requests.specs.Form.{all_digits, number, is_digit}
 
+-- the bytes of digits
 pub digit_true : (b : ℕ) → 48 ≤ b → b ≤ 57 → is_digit b ≡ true
 digit_true b low high = grind (arith, nat_tests)
 
+-- one byte that is no digit spoils a number
 pub not_digit : (bs : List ℕ) (at w i : ℕ) → i < w → is_digit (get_or bs (at + i) 0) ≡ false → all_digits bs at w ≡ false
 unfolding all_digits
 not_digit bs at zero i l e = absurd (omega arith)
@@ -19,6 +21,7 @@ not_digit bs at (suc w) i l e =
       | inr (inr more) ↦ absurd (omega arith)
     ]
 
+-- w digits write a number below ten to the w
 pub number_lt : (bs : List ℕ) (at w : ℕ) → all_digits bs at w ≡ true → number bs at w < 10 ^ w
 unfolding number all_digits
 number_lt bs at zero h = omega arith

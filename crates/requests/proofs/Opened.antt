@@ -2,16 +2,17 @@
 use Rattle.std.proofs.Common.{◌≡◌, ℕ, ◌+◌, ◌*◌, ◌<◌, ◌≤◌, true, List, [], ◌∷◌, ◌++◌, length, get_or, take, drop, set, is_ok, Some, IsOk, Ok, Err, Result, sym, refl, subst, zero-add, arith}
 use Rattle.std.specs.List.{slice_get}
 use Rattle.std.specs.Result.{result_unwrap_or}
-use Rattle.std.proofs.lemmas.List.{set_at, length-take-le, append_assoc, append-nil, take_more, drop_more, take_all, drop_all}
+use Rattle.std.proofs.lemmas.List.{set_at, length-take-le, append_assoc, take_more, drop_more}
 use Rattle.std.proofs.lemmas.Option.{slice_get-get_or, slice_get_within, get_or_from_slice_get}
 use Rattle.accounts.specs.declared.record.Line.{Line}
 use Rattle.accounts.specs.declared.record.Size.TheVariants.{Small}
 use Rattle.accounts.specs.declared.record.Kind.TheVariants.{Member}
-use Rattle.requests.specs.Meaning.{pair_at, line_at, meaning, lines_in, written}
+use Rattle.requests.specs.Meaning.{pair_at, line_at, meaning, lines_in}
 use Rattle.requests.specs.Placed.{Placed}
 use Rattle.requests.proofs.Judged.{pairs_placed, lines_at}
 use Rattle.requests.proofs.Readings.{Meant, meant, count_ok}
 
+-- an answer that is in order is what it holds
 ok_is : {A E : Type 0} (r : Result (List A) E) → is_ok r ≡ true → r ≡ Ok (result_unwrap_or r [])
 ok_is (Ok xs) h = refl
 ok_is (Err e) h = cc
@@ -21,7 +22,7 @@ blank : Line
 blank = record { account = 0; percentage = 0; savings = 0; class = 0; size = Small; kind = Member }
 
 module _ (file : List ℕ) (n : ℕ) (ok : is_ok (meaning file) ≡ true) (counts : n ≡ length (lines_in file)) where
-  pub means : meaning file ≡ Ok (lines_in file)
+  means : meaning file ≡ Ok (lines_in file)
   means = ok_is (meaning file) ok
 
   known : Meant file n (lines_in file)
@@ -44,14 +45,6 @@ module _ (file : List ℕ) (n : ℕ) (ok : is_ok (meaning file) ≡ true) (count
   line_in place line l is =
       let here : get_or (lines_in file) place line ≡ line = let h = line_is place line l in cc in
       rw (slice_get-get_or (lines_in file) place line (omega arith), here)
-
-  -- a table with all the lines in its first places
-  pub table_all : (t table rest : List Line) → length table ≡ n → t ≡ take n (lines_in file) ++ drop n table → t ++ drop n rest ≡ written (meaning file) rest
-  table_all t table rest long is =
-      let all : take n (lines_in file) ≡ lines_in file = take_all n (lines_in file) (omega arith) in
-      let none : drop n table ≡ [] = drop_all n table (omega arith) in
-      let front : t ≡ lines_in file = rw (is, all, none) (append-nil (lines_in file)) in
-      rw (means, front, ← counts)
 
 -- one more line in its place of a table
 pub table_more : (ls table t : List Line) (place : ℕ) (line : Line) → slice_get ls place ≡ Some line → place < length table → t ≡ take place ls ++ drop place table → set t place line ≡ take (place + 1) ls ++ drop (place + 1) table

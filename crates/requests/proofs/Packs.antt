@@ -9,15 +9,17 @@ use Rattle.requests.specs.declared.filed.FiledLine.{FiledLine}
 use Rattle.requests.specs.Packing.{item, behind, text, pairs}
 use Rattle.requests.proofs.Texts.{length_text, three}
 
+-- a remark is no longer than what stands behind the fields
 pub length_behind : (r : List ℕ) → length r ≤ length (behind r)
 length_behind [] = omega arith
 length_behind (b ∷ r) = omega arith
 
+-- a remark takes one byte more than it has, at most
 pub length_behind_most : (r : List ℕ) → length (behind r) ≤ length r + 1
 length_behind_most [] = omega arith
 length_behind_most (b ∷ r) = omega arith
 
--- the entry at i and those behind it
+-- the filed line at i and those behind it
 module _ (es : List FiledLine) (i : ℕ) (d : FiledLine) (l : i < length es) where
   pub texts_more : (bs : List ℕ) → (bs ++ text (item (get_or es i d))) ++ flat_map text (map item (drop (i + 1) es)) ≡ bs ++ flat_map text (map item (drop i es))
   texts_more bs = rw (drop_more es i d l, append_assoc)
@@ -32,6 +34,6 @@ module _ (es : List FiledLine) (i : ℕ) (d : FiledLine) (l : i < length es) whe
   pub remark_short : length (get_or es i d).remark.now ≤ length (text (item (get_or es i d)))
   remark_short = omega (arith, length_text (item (get_or es i d)), length_behind (get_or es i d).remark.now)
 
--- what is read past the end of the entries
+-- what is read past the last filed line
 abbrev pub blank : FiledLine
 blank = record { line = record { account = 0; percentage = 0; savings = 0; class = 0; size = Small; kind = Member }; remark = record { ref_ptr = (0, 0); now = [] } }

@@ -16,14 +16,17 @@ use Rattle.requests.proofs.Fields.{widths}
 abbrev pub padded : ℕ → ℕ → List ℕ
 padded w n = padded_integral (format_spec 32 0 4 w (2 ^ 64 - 1)) false [] (decimal n)
 
+-- a zero is written in zeros
 zeros : (w : ℕ) → digits w 0 ≡ replicate w 48
 unfolding digits
 zeros zero = refl
 zeros (suc w) = rw (zeros w, replicate_more) (rw add-one refl)
 
+-- a number in its width is its digits with zeros in front
 abbrev Filled : ℕ → List ℕ → Type 0
 Filled n ds = (w : ℕ) → 0 < w → n < 10 ^ w → digits w n ≡ replicate (w - length ds) 48 ++ ds
 
+-- so is a number of one digit
 one : (n : ℕ) → n < 10 → Filled n ((48 + n) ∷ [])
 unfolding digits
 one n h zero some fits = absurd (omega arith)
@@ -33,6 +36,7 @@ one n h (suc w) some fits =
     let left : suc w - 1 ≡ w = omega arith in
     rw (none, last, zeros w, left)
 
+-- and a number of one digit more
 more : (n : ℕ) (ds : List ℕ) → 10 ≤ n → Filled (n / 10) ds → Filled n (ds ++ (48 + n % 10) ∷ [])
 unfolding digits
 more n ds h ih zero some fits = absurd (omega arith)
@@ -42,15 +46,18 @@ more n ds h ih (suc (suc w)) some fits =
     let left : suc (suc w) - (length ds + 1) ≡ suc w - length ds = omega arith in
     rw (front, length_push, left) (append_assoc _ ds _)
 
+-- digits by their definition are those of the number, with zeros in front
 digits_filled : (w n : ℕ) → 0 < w → n < 10 ^ w → n < 2 ^ 64 → digits w n ≡ replicate (w - length (decimal n)) 48 ++ decimal n
 digits_filled w n some fits small = decimal_by_steps Filled one more n small w some fits
 
+-- what is printed in a width are those digits
 pub padded_digits : (w n : ℕ) → 0 < w → n < 10 ^ w → n < 2 ^ 64 → padded w n ≡ digits w n
 unfolding padded_integral char_count
 padded_digits w n some fits small =
     let even : w - length (decimal n) - 0 - 0 ≡ w - length (decimal n) = omega arith in
     rw (even, append-nil, digits_filled w n some fits small)
 
+-- the letters of size and kind as they are printed
 letters : (s : Size) (k : Kind) → size_text s ++ (codes " " ++ kind_text k) ≡ size_letter s ∷ 32 ∷ kind_letter k ∷ []
 letters Small Member = refl
 letters Small Anchor = refl

@@ -21,6 +21,7 @@ unfolding pair_at
 pair_back file rest k at n there small short =
     rw (← drop-drop 4 (2 + 6 * k) file, there, from_le_bytes-to_le_bytes_4 at (omega arith), from_le_bytes-to_le_bytes_2 n (omega arith))
 
+-- lines that are packed stand where their pairs say
 pub stands : (file rest more : List ℕ) (k at : ℕ) (es : List Item) → drop (2 + 6 * k) file ≡ pairs at es ++ rest → drop at file ≡ flat_map text es ++ more → at + length (flat_map text es) < 65536 → Stands file k at es
 unfolding pairs
 stands file rest more k at [] heads lines small = tt

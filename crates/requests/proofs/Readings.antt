@@ -1,5 +1,5 @@
 -- What is known of a file that was read.
-use Rattle.std.proofs.Common.{◌≡◌, ℕ, ◌+◌, ◌*◌, ◌≤◌, true, List, length, is_ok, Ok, sym, refl, arith}
+use Rattle.std.proofs.Common.{◌≡◌, ℕ, ◌+◌, ◌*◌, ◌≤◌, true, List, length, is_ok, Ok, sym, arith}
 use Rattle.std.proofs.lemmas.Bool.Decides.{nat_tests}
 use Rattle.accounts.specs.declared.record.Line.{Line}
 use Rattle.base.specs.Limits.{most_lines}
@@ -13,6 +13,7 @@ pub record Head (file : List ℕ) (n : ℕ) : Type 0 where
   pub most : n ≤ 1024
   pub within : 2 + 6 * n ≤ length file
 
+-- what a line count in order says of the file
 pub count_ok : (file : List ℕ) (n : ℕ) → count file ≡ Ok n → Head file n
 unfolding count
 count_ok file n h = record {
@@ -28,6 +29,7 @@ pub record Meant (file : List ℕ) (n : ℕ) (ls : List Line) : Type 0 where
   pub placed : pairs_from file (2 + 6 * n) 0 n ≡ Ok tt
   pub formed : lines_from file 0 n ≡ Ok ls
 
+-- a file that means lines has passed every check
 pub meant : (file : List ℕ) (ls : List Line) → meaning file ≡ Ok ls → Meant file (length ls) ls
 meant file ls h =
     let counts = then_ok (count file) (lines_of file) ls h in
@@ -41,6 +43,7 @@ pub record Passed (file : List ℕ) (n : ℕ) : Type 0 where
   pub counts : n ≡ length (lines_in file)
   pub lines : lines_of file n ≡ Ok (lines_in file)
 
+-- a file that passed every check means its lines
 pub passed : (file : List ℕ) (n : ℕ) → count file ≡ Ok n → Ok tt ≡ pairs_from file (2 + 6 * n) 0 n → Ok tt ≡ checked (lines_from file 0 n) → Passed file n
 passed file n counts placed formed =
     let ls = values (lines_from file 0 n) in

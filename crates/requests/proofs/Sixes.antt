@@ -3,6 +3,7 @@ use Rattle.std.proofs.Common.{◌≡◌, ℕ, zero, suc, ◌+◌, ◌-◌, ◌*�
 use Rattle.std.specs.Simd.{first_chunks}
 use Rattle.std.proofs.lemmas.List.{drop-drop, get_or-take, get_or-drop, length-drop, take_all}
 
+-- a chunk of six bytes is those bytes of the list
 chunk_at : (bs : List ℕ) (k i : ℕ) (d : List ℕ) → i < k → get_or (first_chunks 6 k bs) i d ≡ take 6 (drop (6 * i) bs)
 chunk_at bs zero i d l = absurd (omega arith)
 chunk_at bs (suc k) zero d l = refl

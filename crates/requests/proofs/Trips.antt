@@ -33,6 +33,7 @@ fits_here e limit start at f low high =
     let short = text_most e f.remark in
     grind (arith, nat_tests)
 
+-- the pairs of lines that stand in the file fit it
 pairs_back : (file : List ℕ) (start k at p : ℕ) (es : List Item) → Stands file k at es → items_from p es ≡ Ok tt → start ≤ at → at + length (flat_map text es) ≤ length file → pairs_from file start k (length es) ≡ Ok tt
 unfolding pairs_from
 pairs_back file start k at p [] s h low high = refl
@@ -46,6 +47,7 @@ line_here : (file more : List ℕ) (k at : ℕ) (e : Item) → pair_at file k �
 unfolding line_at
 line_here file more k at e is there f = rw (is, there, take_at (text e) more (length (text e)) refl, text_back e f.numbers)
 
+-- the lines that stand in the file read as they were
 lines_back : (file : List ℕ) (k at p : ℕ) (es : List Item) → Stands file k at es → items_from p es ≡ Ok tt → lines_from file k (length es) ≡ Ok (map (λ e. e.0) es)
 unfolding lines_from
 lines_back file k at p [] s h = refl
@@ -63,6 +65,7 @@ remark_here file more at l (b ∷ r) there =
     let behind-form : drop (at + 31) file ≡ (b ∷ r) ++ more = sym (drop-drop 31 at file) ∙ ap (drop 31) there in
     rw (lt-ltb 30 n (omega arith), past, behind-form) (take_at (b ∷ r) more (length (b ∷ r)) refl)
 
+-- the remarks of lines that stand in the file
 remarks_back : (file : List ℕ) (k at i : ℕ) (d : Item) (es : List Item) → Stands file k at es → i < length es → (remark_of file (pair_at file (k + i))).0 ≡ (get_or es i d).1
 remarks_back file k at i d [] s h = absurd (omega arith)
 remarks_back file k at zero d (e ∷ es) s h = rw (add-zero, s.0) (remark_here file s.1.0 at e.0 e.1 s.1.1)
@@ -90,6 +93,7 @@ packed es file h =
       is = grind (arith, nat_tests);
     }
 
+-- the line count of a packed file
 count_back : (es : List Item) → (length es ≡ 0 → ⊥) → length es ≤ 1024 → size es ≤ 65535 → count (file_of es) ≡ Ok (length es)
 unfolding count file_of
 count_back es some few short =
@@ -97,6 +101,7 @@ count_back es some few short =
     let long = length_file es in
     grind (arith, nat_tests)
 
+-- all lines that were packed stand in the file
 all_stand : (es : List Item) → size es ≤ 65535 → Stands (file_of es) 0 (2 + 6 * length es) es
 unfolding file_of
 all_stand es short =
@@ -104,6 +109,7 @@ all_stand es short =
     let past : drop at (file_of es) ≡ flat_map text es ++ [] = sym (drop-drop (6 * length es) 2 (file_of es)) ∙ drop_at (pairs at es) (flat_map text es) (6 * length es) (length_pairs at es) ∙ sym (append-nil (flat_map text es)) in
     stands (file_of es) (flat_map text es) [] 0 at es refl past (omega arith)
 
+-- the remark that a file in order shows at a place
 remark_shown : (file r : List ℕ) (place : ℕ) (lines : List Line) → meaning file ≡ Ok lines → place < length lines → (remark_of file (pair_at file place)).0 ≡ r → option_map (λ found. found.0) (remark_at file place) ≡ Some r
 remark_shown file r place lines means l h = rw (means, lt-ltb place (length lines) l, h)
 

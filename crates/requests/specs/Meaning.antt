@@ -28,8 +28,8 @@ pair_at file place =
 abbrev pub end_of : Pair → ℕ
 end_of p = p.offset + p.length
 
--- a pair's line has all its fields and no more bytes than a line can have, starts no earlier than `start` and ends
--- within the file
+-- a pair's line has all its fields and no more bytes than a line may have, starts no earlier than `start`, and ends
+-- within a file of `size` bytes
 abbrev pub fits : ℕ → ℕ → Pair → Bool
 fits size start p =
     nat_le start p.offset
@@ -63,8 +63,8 @@ lines_from file place zero = Ok []
 lines_from file place (suc n) =
     then (line_at file place) (λ line. then (lines_from file (place + 1) n) (λ lines. Ok (line ∷ lines)))
 
--- A file has room for a line count and no more bytes than a file can have. There is a line and no more than a file can
--- have, and as many pairs follow.
+-- The line count of a file, or why it has none: the file is shorter than a line count or longer than a file may be, the
+-- count is 0 or above the most lines, or as many pairs pass the file's end.
 unfoldable pub count : List ℕ → Result ℕ RequestRefusal
 count file =
     let n = from_le_bytes w16 file in

@@ -1,7 +1,6 @@
 use Rattle.std.proofs.Common.{sym, arith}
 use Rattle.std.proofs.lemmas.Grind.{common_steps}
 use Rattle.std.proofs.lemmas.Bool.Decides.{nat_tests}
-use Rattle.requests.specs.Meaning.{lines_in}
 use Rattle.requests.proofs.Readings.{length_lines_of}
 use Rattle.requests.proofs.reader.read.Goals as goal
 

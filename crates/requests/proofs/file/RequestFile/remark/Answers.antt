@@ -1,5 +1,5 @@
 use Rattle.std.proofs.Common.{arith, rules}
-use Rattle.requests.proofs.Opened.{means, within, placed}
+use Rattle.requests.proofs.Opened.{within, placed}
 use Rattle.requests.proofs.file.RequestFile.remark.Goals as goal
 
 pub read_pair-pair-requires : goal.read_pair-pair-requires

@@ -1,4 +1,3 @@
-use Rattle.std.proofs.Common.{take, arith}
 use Rattle.requests.proofs.Opened.{list_more}
 use Rattle.requests.proofs.file.RequestFile.to_vec.Goals as goal
 

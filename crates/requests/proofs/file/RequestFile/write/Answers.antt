@@ -1,6 +1,4 @@
-use Rattle.std.proofs.Common.{take, arith}
-use Rattle.std.proofs.lemmas.List.{length-take-le}
-use Rattle.requests.proofs.Opened.{table_more, table_all}
+use Rattle.requests.proofs.Opened.{table_more}
 use Rattle.requests.proofs.file.RequestFile.write.Goals as goal
 
 pub loop-place-preserved : goal.loop-place-preserved
