@@ -1,5 +1,5 @@
 -- Why an image is refused, by number and place.
-use Rattle.std.specs.Prelude.{ℕ, zero, suc, ◌+◌, Bool, true, cond, ◌||◌, List, length, Some, None, Option, nat_lt, codes}
+use Rattle.std.specs.Prelude.{ℕ, zero, suc, ◌+◌, Bool, true, false, cond, ◌||◌, List, length, Some, None, Option, nat_lt, codes}
 use Rattle.std.specs.Option.{option_map}
 use Rattle.accounts.specs.declared.record.Record.{Record}
 use Rattle.accounts.specs.Books.{accounts, present}
@@ -16,6 +16,11 @@ number_of (UnfitRecord place) = 7
 abbrev pub place_of : ImageRefusal → ℕ
 place_of NoRoom = 0
 place_of (UnfitRecord place) = place
+
+-- whether a refusal is about a record
+abbrev pub names_place : ImageRefusal → Bool
+names_place NoRoom = false
+names_place (UnfitRecord place) = true
 
 -- why, in words
 abbrev pub reason_text : ImageRefusal → List ℕ

@@ -3,7 +3,7 @@ ghost use Rattle.std.specs.Prelude.{◌≡◌, ◌<◌, ◌≤◌, Some, IfOk};
 ghost use Rattle.std.specs.Result.{result_err};
 ghost use Rattle.std.proofs.Common.{rules};
 ghost use Rattle.books.specs.Images.{count_in, capacity_of};
-ghost use Rattle.books.specs.ImageRefusals.{first_unfit, number_of, open_refusal, place_of, reason_text, start_refusal, unfit};
+ghost use Rattle.books.specs.ImageRefusals.{first_unfit, names_place, number_of, open_refusal, place_of, reason_text, start_refusal, unfit};
 ghost use Rattle.books.specs.Reading.{Legible};
 
 use crate::layout;
@@ -41,6 +41,8 @@ impl Numbered for ImageRefusal {
 
     ghost place = { place_of };
 
+    ghost names_place = { names_place };
+
     ghost reason = { reason_text };
 
     ghost spoken = { λ e. Prim.search rules };
@@ -57,6 +59,10 @@ impl Numbered for ImageRefusal {
             ImageRefusal::NoRoom => 0,
             ImageRefusal::UnfitRecord(place) => *place,
         }
+    }
+
+    fn names_place(&self) -> bool {
+        matches!(self, ImageRefusal::UnfitRecord(_))
     }
 }
 

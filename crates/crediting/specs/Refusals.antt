@@ -1,5 +1,5 @@
 -- Why a list of rates is refused.
-use Rattle.std.specs.Prelude.{◌≡◌, ℕ, ◌<◌, true, false, cond, not, List, length, position, Some, None, Option, Ok, Err, MatchBool, codes, Result, ◌==◌, slice_index}
+use Rattle.std.specs.Prelude.{◌≡◌, ℕ, ◌<◌, Bool, true, false, cond, not, List, length, position, Some, None, Option, Ok, Err, MatchBool, codes, Result, ◌==◌, slice_index}
 use Rattle.crediting.specs.declared.rates.RatesRefusal.{RatesRefusal}
 use Rattle.crediting.specs.declared.rates.RatesRefusal.TheVariants.{WrongCount, OutOfRange}
 use Rattle.crediting.specs.Limits.{rate_count}
@@ -14,6 +14,11 @@ number (OutOfRange p) = 8
 abbrev pub place : RatesRefusal → ℕ
 place WrongCount = 0
 place (OutOfRange p) = p
+
+-- whether a refusal is about a rate
+abbrev pub names_place : RatesRefusal → Bool
+names_place WrongCount = false
+names_place (OutOfRange p) = true
 
 -- and why, in words.
 abbrev pub reason : RatesRefusal → List ℕ

@@ -1,5 +1,5 @@
 //! The rates of a volumetric method, one for each service class, and why a list of rates is refused.
-ghost use Rattle.crediting.specs.Refusals.{Judges, OnePlace, judged, number, place as place_of, reason};
+ghost use Rattle.crediting.specs.Refusals.{Judges, OnePlace, judged, names_place, number, place as place_of, reason};
 ghost use Rattle.crediting.specs.Worths.{rate_in_range};
 ghost use Rattle.std.specs.Prelude.{◌≡◌, not, position, Some};
 ghost use Rattle.std.proofs.Common.{rules};
@@ -39,6 +39,8 @@ impl Numbered for RatesRefusal {
 
     ghost place = { place_of };
 
+    ghost names_place = { names_place };
+
     ghost reason = { reason };
 
     ghost spoken = { λ why. Prim.search rules };
@@ -55,6 +57,10 @@ impl Numbered for RatesRefusal {
             RatesRefusal::WrongCount => 0,
             RatesRefusal::OutOfRange { place } => *place,
         }
+    }
+
+    fn names_place(&self) -> bool {
+        matches!(self, RatesRefusal::OutOfRange { .. })
     }
 }
 

@@ -1,5 +1,5 @@
 -- The number of each refusal, the place that it tells, 0 where it tells none, and its reason in words.
-use Rattle.std.specs.Prelude.{ℕ, List, codes}
+use Rattle.std.specs.Prelude.{ℕ, Bool, true, false, List, codes}
 use Rattle.ledger.specs.declared.refusal.Refusal.{Refusal}
 use Rattle.ledger.specs.declared.refusal.Refusal.TheVariants.{
   WrongSmallest,
@@ -49,6 +49,13 @@ place (LineOutOfRange p) = p
 place (AccountRepeated p) = p
 place (LineOfClosedAccount p) = p
 place _ = 0
+
+-- whether a refusal is about a line
+abbrev pub names_place : Refusal → Bool
+names_place (LineOutOfRange p) = true
+names_place (AccountRepeated p) = true
+names_place (LineOfClosedAccount p) = true
+names_place _ = false
 
 abbrev pub reason : Refusal → List ℕ
 reason WrongSmallest = codes "the smallest number of lines is neither 1 nor 10"

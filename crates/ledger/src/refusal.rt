@@ -1,7 +1,7 @@
 //! Why a call is declined.
 ghost use Rattle.std.specs.Prelude.{Some};
 ghost use Rattle.std.proofs.Common.{rules};
-ghost use Rattle.ledger.specs.Refusals.{number, place as place_of, reason};
+ghost use Rattle.ledger.specs.Refusals.{names_place, number, place as place_of, reason};
 
 use base::refusal::Numbered;
 use std::error::Error;
@@ -87,6 +87,8 @@ impl Numbered for Refusal {
 
     ghost place = { place_of };
 
+    ghost names_place = { names_place };
+
     ghost reason = { reason };
 
     ghost spoken = { λ why. Prim.search rules };
@@ -122,5 +124,14 @@ impl Numbered for Refusal {
             | Refusal::LineOfClosedAccount { place } => *place,
             _ => 0,
         }
+    }
+
+    fn names_place(&self) -> bool {
+        matches!(
+            self,
+            Refusal::LineOutOfRange { .. }
+                | Refusal::AccountRepeated { .. }
+                | Refusal::LineOfClosedAccount { .. }
+        )
     }
 }

@@ -1,5 +1,5 @@
 -- The numbers, places and reasons by which the refusals of a request file are known.
-use Rattle.std.specs.Prelude.{ℕ, List, codes}
+use Rattle.std.specs.Prelude.{ℕ, Bool, true, false, List, codes}
 use Rattle.requests.specs.declared.fault.RequestRefusal.{RequestRefusal}
 use Rattle.requests.specs.declared.fault.RequestRefusal.TheVariants.{FileLength, LineCount, Table, Pair, Line}
 use Rattle.requests.specs.declared.fault.ReadError.{ReadError}
@@ -22,6 +22,12 @@ place_of LineCount = 0
 place_of Table = 0
 place_of (Pair fault) = fault.place
 place_of (Line fault) = fault.place
+
+-- whether a refusal is about a pair or a line
+abbrev pub names_place : RequestRefusal → Bool
+names_place (Pair fault) = true
+names_place (Line fault) = true
+names_place _ = false
 
 -- why a file is refused, as it is printed
 abbrev pub reason_of : RequestRefusal → List ℕ

@@ -1,7 +1,7 @@
 //! What is wrong with a request file. A field's fault lies in its line's, and a line's in the file's.
 ghost use Rattle.std.specs.Prelude.{◌≡◌, Some};
 ghost use Rattle.std.proofs.Common.{rules};
-ghost use Rattle.requests.specs.Refusals.{number_of, place_of, reason_of, read_reason_of};
+ghost use Rattle.requests.specs.Refusals.{names_place, number_of, place_of, reason_of, read_reason_of};
 ghost use Rattle.requests.specs.declared.fault.FieldFault.TheVariants.{NotLetter};
 ghost use Rattle.requests.specs.declared.fault.RequestRefusal.TheVariants.{Pair, Line};
 ghost use Rattle.requests.specs.declared.fault.ReadError.TheVariants.{Refused, NoMemory};
@@ -87,6 +87,8 @@ impl Numbered for RequestRefusal {
 
     ghost place = { place_of };
 
+    ghost names_place = { names_place };
+
     ghost reason = { reason_of };
 
     ghost spoken = { λ _. Prim.search rules };
@@ -107,6 +109,10 @@ impl Numbered for RequestRefusal {
             RequestRefusal::Pair(fault) => fault.place,
             RequestRefusal::Line(fault) => fault.place,
         }
+    }
+
+    fn names_place(&self) -> bool {
+        matches!(self, RequestRefusal::Pair(_) | RequestRefusal::Line(_))
     }
 }
 
