@@ -10,7 +10,7 @@ use Rattle.journal.specs.Meanings.{Meaning}
 use Rattle.journal.specs.declared.statement.ParseError.{ParseError}
 use Rattle.journal.specs.Results.{and_then}
 use Rattle.journal.specs.declared.text.JournalFault.{JournalFault}
-use Rattle.journal.specs.Journals.{Text, lines_after, lines_of, some_line, without_feed, one_more, Read, Told}
+use Rattle.journal.specs.Journals.{Text, lines_after, lines_of, some_line, without_feed, one_more, ReadsLine, ReadsText}
 
 abbrev is_feed : ℕ → Bool
 is_feed b = b == 10
@@ -87,5 +87,5 @@ pub counted : (t : Text) (r : Result (Option Meaning) ParseError) (u : Text) →
 counted t r u e = grind arith
 
 -- a text is refused where a line is
-pub refused : (m : Result Text JournalFault) (f : JournalFault) (t : Text) (more : Text → Result Text JournalFault) → Read m (Err f) t → Told (and_then m more) (Err f)
+pub refused : (m : Result Text JournalFault) (f : JournalFault) (t : Text) (more : Text → Result Text JournalFault) → ReadsLine m (Err f) t → ReadsText (and_then m more) (Err f)
 refused m f t more h = grind arith

@@ -32,12 +32,12 @@ request : (ws : List (List ℕ)) (name : List ℕ) → AreWords ws → request_o
 request [] name a e = grind (arith, e)
 request (w ∷ ws) name a e = grind (arith, e, a)
 
-said : (k : Keyword) (ws : List (List ℕ)) (m : Meaning) → AreWords ws → says k ws ≡ Ok m → readable m ≡ true
-said k ws m a e = grind (arith, e, a, request)
+by_keyword : (k : Keyword) (ws : List (List ℕ)) (m : Meaning) → AreWords ws → says k ws ≡ Ok m → readable m ≡ true
+by_keyword k ws m a e = grind (arith, e, a, request)
 
 named : (o : Option Keyword) (ws : List (List ℕ)) (m : Meaning) → AreWords ws → says_named o ws ≡ Ok (Some m) → readable m ≡ true
 named None ws m a e = grind (arith, e)
-named (Some k) ws m a e = grind (arith, e, said k ws m a)
+named (Some k) ws m a e = grind (arith, e, by_keyword k ws m a)
 
 by_words : (ws : List (List ℕ)) (m : Meaning) → AreWords ws → words_say ws ≡ Ok (Some m) → readable m ≡ true
 by_words [] m a e = grind (arith, e)

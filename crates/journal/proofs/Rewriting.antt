@@ -93,14 +93,14 @@ are_words : (m : Meaning) → Fitting m → readable m ≡ true → AreWords (wo
 are_words m f r = grind (arith, decimal_word, rate_words)
 
 -- what the words say
-said : (m : Meaning) → Fitting m → words_say (words_of m) ≡ Ok (Some m)
-said m f = grind (arith, number_decimal, rates_again, text_is)
+words_meaning : (m : Meaning) → Fitting m → words_say (words_of m) ≡ Ok (Some m)
+words_meaning m f = grind (arith, number_decimal, rates_again, text_is)
 
 pub written : (m : Meaning) (bs : List ℕ) → Fitting m → bs ≡ text_of m → Written m bs
 written m bs f e =
     record {
       bytes = e;
-      again = λ r. ap statement_of (e ∙ text_joined m) ∙ ap words_say (words_joined (words_of m) (are_words m f r)) ∙ said m f;
+      again = λ r. ap statement_of (e ∙ text_joined m) ∙ ap words_say (words_joined (words_of m) (are_words m f r)) ∙ words_meaning m f;
     }
 
 pub reads_again : (m : Meaning) → Fitting m → (r : Result (String Global) AllocError) → IfOk r (λ s. string_bytes s ≡ text_of m) → IfOk r (λ s. Written m (string_bytes s))

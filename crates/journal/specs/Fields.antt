@@ -17,7 +17,7 @@ use Rattle.journal.specs.declared.statement.ParseError.{ParseError}
 use Rattle.journal.specs.declared.statement.ParseError.TheVariants.{Expected as expected}
 use Rattle.journal.specs.Numbers.{number_of}
 use Rattle.journal.specs.Results.{and_then}
-use Rattle.journal.specs.Words.{first, rest}
+use Rattle.journal.specs.Words.{first, rest, rest_from}
 
 abbrev pub number_at : Expected → ℕ → Option (List ℕ) → Result ℕ ParseError
 number_at what most None = Err (expected what)
@@ -102,14 +102,14 @@ six_of ws =
     and_then (number_at what.Account most64 (first ws)) λ account.
     and_then (number_at what.Percentage most32 (first (rest ws))) λ percentage.
     and_then (number_at what.Savings most16 (first (rest (rest ws)))) λ savings.
-    and_then (number_at what.Class most8 (first (rest (rest (rest ws))))) λ class.
-    marks_of account percentage savings class (rest (rest (rest (rest ws))))
+    and_then (number_at what.Class most8 (first (rest_from 3 ws))) λ class.
+    marks_of account percentage savings class (rest_from 4 ws)
 
 -- and no word behind them
 abbrev pub line_of : List (List ℕ) → Result Line ParseError
 line_of ws =
     and_then (six_of ws) λ line.
-    and_then (end_at (first (rest (rest (rest (rest (rest (rest ws)))))))) λ _.
+    and_then (end_at (first (rest_from 6 ws))) λ _.
     Ok line
 
 -- a file's name is text: the UTF-8 bytes of characters

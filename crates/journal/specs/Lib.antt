@@ -7,3 +7,6 @@ pub mod Meanings
 pub mod Texts
 pub mod Mistakes
 pub mod Packed
+pub mod JournalLines
+pub mod Orders
+pub mod Journals

@@ -27,7 +27,7 @@ use Rattle.journal.specs.Fields.{
 }
 use Rattle.journal.specs.Words.{first}
 
--- a statement, with lists in the place of memory
+-- what a statement means: the statement, with lists in the place of memory
 pub data Meaning : Type 0 where
   a_method : MethodName → Meaning
   a_book : BookKind → Meaning
@@ -43,6 +43,7 @@ pub data Meaning : Type 0 where
   a_lapse : Meaning
   a_close : Meaning
 
+-- the meaning of a statement
 abbrev pub meaning : Statement → Meaning
 meaning (is.Method name) = a_method name
 meaning (is.Book book) = a_book book
@@ -74,6 +75,7 @@ says word.Disburse ws = and_then (account_and what.Units ws) λ p. Ok (a_disburs
 says word.Lapse ws = and_then (end_at (first ws)) λ _. Ok a_lapse
 says word.Close ws = and_then (end_at (first ws)) λ _. Ok a_close
 
+-- the same of a first word that may be none of them
 abbrev pub says_named : Option Keyword → List (List ℕ) → Result (Option Meaning) ParseError
 says_named None ws = Err (expected what.Statement)
 says_named (Some k) ws = and_then (says k ws) λ m. Ok (Some m)
@@ -87,14 +89,15 @@ abbrev pub words_say : List (List ℕ) → Result (Option Meaning) ParseError
 words_say [] = Ok None
 words_say (w ∷ ws) = cond (is_remark w) (Ok None) (says_named (keyword_of w) ws)
 
+-- what a line says
 abbrev pub statement_of : List ℕ → Result (Option Meaning) ParseError
 statement_of bs = words_say (words bs)
 
--- an answer by a definition, unless memory fails
-abbrev pub Told : {X Y : Type 0} → (Y → X) → Result X ParseError → Result Y ParseError → Type 0
-Told means m (Ok y) = m ≡ Ok (means y)
-Told means m (Err (expected e)) = m ≡ Err (expected e)
-Told means m (Err NoMemory) = Unit {0}
+-- what was read is as a definition has it, unless memory fails
+abbrev pub Reads : {X Y : Type 0} → (Y → X) → Result X ParseError → Result Y ParseError → Type 0
+Reads means m (Ok y) = m ≡ Ok (means y)
+Reads means m (Err (expected e)) = m ≡ Err (expected e)
+Reads means m (Err NoMemory) = Unit {0}
 
 -- rates and a file's name are kept in memory
 abbrev pub keeps : Keyword → Bool
@@ -112,10 +115,12 @@ keeps word.Disburse = false
 keeps word.Lapse = false
 keeps word.Close = false
 
+-- the same of a first word that may be none of them
 abbrev pub keeps_named : Option Keyword → Bool
 keeps_named None = false
 keeps_named (Some k) = keeps k
 
+-- whether reading a line of these words may ask for memory
 abbrev pub asks_memory : List (List ℕ) → Bool
 asks_memory [] = false
 asks_memory (w ∷ ws) = keeps_named (keyword_of w)

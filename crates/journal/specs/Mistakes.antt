@@ -1,10 +1,12 @@
--- What is said of a line that is not understood.
-use Rattle.std.specs.Prelude.{ℕ, List, ◌++◌, codes}
+-- What is printed of a line that is not as it should be.
+use Rattle.std.specs.Prelude.{ℕ, List, ◌++◌, codes, decimal, Option}
+use Rattle.std.specs.Option.{option_map}
 use Rattle.journal.specs.declared.statement.Expected.{Expected}
 use Rattle.journal.specs.declared.statement.Expected.TheVariants as what
 use Rattle.journal.specs.declared.statement.ParseError.{ParseError}
 use Rattle.journal.specs.declared.statement.ParseError.TheVariants.{Expected as expected, NoMemory}
 
+-- the word that a line should have had
 abbrev pub expected_text : Expected → List ℕ
 expected_text what.Statement = codes "a statement: method, book, open, rates, line, request, enrol, reading, bill, final, disburse, lapse or close"
 expected_text what.Method = codes "value-stack or volumetric"
@@ -25,6 +27,12 @@ expected_text what.Units = codes "units, in digits"
 expected_text what.Cents = codes "cents, in digits"
 expected_text what.End = codes "the end of the line"
 
+-- why a line is not understood
 abbrev pub parse_error_text : ParseError → List ℕ
 parse_error_text (expected what) = codes "expected " ++ expected_text what
 parse_error_text NoMemory = codes "there is no memory for the statement"
+
+-- `journal line 7: expected ..`, where the text of what is expected is known
+abbrev pub mistake_text : ℕ → Option (List ℕ) → Option (List ℕ)
+mistake_text line wanted =
+    option_map (λ words. codes "journal line " ++ (decimal line ++ (codes ": expected " ++ words))) wanted

@@ -30,6 +30,11 @@ abbrev pub rest : List (List ℕ) → List (List ℕ)
 rest [] = []
 rest (w ∷ ws) = ws
 
+-- the words behind the first n
+abbrev pub rest_from : ℕ → List (List ℕ) → List (List ℕ)
+rest_from zero ws = ws
+rest_from (suc n) ws = rest_from n (rest ws)
+
 -- what is left of a line behind its first word, and behind its first n
 abbrev pub after_run : Bool → List ℕ → List ℕ
 after_run spaces bs = drop (prefix_len (in_run spaces) bs) bs

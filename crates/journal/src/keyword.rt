@@ -1,4 +1,4 @@
-// The first word of a statement.
+//! The first word of a statement.
 ghost use Rattle.std.specs.Prelude.{◌≡◌};
 ghost use Rattle.std.specs.Option.{ok_or};
 ghost use Rattle.journal.specs.declared.statement.Expected.TheVariants.{Statement};
@@ -7,6 +7,8 @@ ghost use Rattle.journal.specs.Keywords.{keyword_of};
 
 use crate::statement::{Expected, ParseError};
 
+/// The first word of a statement, which says how the words behind it are read. Any other word is refused as no
+/// statement.
 #[derive(Clone, Copy, PartialEq, Eq, Debug)]
 pub enum Keyword {
     Method,

@@ -1,12 +1,14 @@
-// A statement of a journal where it stands.
-use journal::statement::Statement;
+//! A statement of a journal where it stands.
+use crate::statement::Statement;
 
+/// A statement of a journal, the line on which it stands, and the bytes of the file that it names.
 #[derive(Drop)]
-pub struct Entry {
-    // the line of the text, from 1
+pub struct JournalLine {
+    /// The line of the text, counted from 1.
     pub line: usize,
+    /// What the line says.
     pub statement: Statement,
-    // the bytes of the request file that the statement names, none for any other
-    // no Option: the statement tells whether it names a file, and one that is empty is refused as any other
+    /// The bytes of the request file that the statement names; empty for every other statement, and as long as the file
+    /// is not read yet.
     pub file: Vec<u8>,
 }

@@ -1,15 +1,17 @@
-// A line of a journal that is not as it should be.
-ghost use Rattle.journal.specs.LineMistakes.{mistake_text};
+//! A line of a journal that is not as it should be.
+ghost use Rattle.journal.specs.Mistakes.{mistake_text};
 
 use std::error::Error;
 use std::fmt;
 use std::fmt::{Debug, Display};
 
+/// A line of a journal, and what it should have had: a word, a statement, or a file that can be read. It is printed as
+/// `journal line 7: expected ..`.
 #[derive(Clone, Copy, PartialEq, Eq, Debug, Drop)]
 pub struct Mistake<W> {
-    // the line of the text, from 1
+    /// The line of the text, counted from 1.
     pub line: usize,
-    // what it should have had
+    /// What the line should have had.
     pub wanted: W,
 }
 

@@ -1,9 +1,9 @@
-// The number that a word writes.
+//! The number that a word writes.
 ghost use Rattle.std.specs.Prelude.{◌≡◌, ◌≤◌, IfSome};
 ghost use Rattle.journal.specs.Numbers.{number_of};
 
-// The number, and `most` in the place of a larger one; nothing where a byte is no digit.
-// `requests` and `cabinet_month` read digits by other rules: a field has a width there, or is refused when too large.
+/// The number that a word of digits writes, and `most` in the place of a larger one; none where the word is empty or a
+/// byte of it is no digit.
 #[tactic(auto, using(crate::proofs::Gathering::digits))]
 pub fn number(word: &[u8], most: u64) -> Option<u64>
     ensures value { result ≡ number_of most word.now }

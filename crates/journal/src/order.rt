@@ -1,24 +1,25 @@
-// A journal opens with the method, the book and the opening, in this order, and has none of them later.
+//! The head of a journal: it opens with the method, the book and the opening, in this order, and has none of them later.
 ghost use Rattle.std.specs.Prelude.{◌≡◌, map, Some};
 ghost use Rattle.journal.specs.Meanings.{meaning};
 ghost use Rattle.journal.specs.Orders.{part, wanted_in, next, ordered, headed, head_of, placed, wanted_text};
 
-use super::entry::Entry;
-use super::mistake::Mistake;
+use crate::line::JournalLine;
+use crate::mistake::Mistake;
+use crate::statement::{BookKind, MethodName, Statement};
 use accounts::project::Project;
-use journal::statement::{BookKind, MethodName, Statement};
 use std::fmt;
 
-// What a statement is to the head of a journal.
+/// What a statement is to the head of a journal.
 #[derive(Clone, Copy)]
 pub enum Part {
     Method(MethodName),
     Book(BookKind),
     Open(Project),
+    /// Any statement but these three.
     Later,
 }
 
-// How far the head of a journal is read.
+/// How far the head of a journal is read.
 #[derive(Clone, Copy)]
 pub enum Stage {
     Start,
@@ -27,20 +28,24 @@ pub enum Stage {
     Opened(Head),
 }
 
+/// What the first three statements of a journal say.
 #[derive(Clone, Copy)]
 pub struct Head {
+    /// The crediting method.
     pub method: MethodName,
+    /// The account book.
     pub book: BookKind,
+    /// The project that the ledger is opened for.
     pub project: Project,
 }
 
-// What a line out of order should have had.
+/// What a line out of order should have had.
 #[derive(Clone, Copy, PartialEq, Eq, Debug)]
 pub enum Wanted {
     Method,
     Book,
     Open,
-    // any statement but these three
+    /// Any statement but these three.
     Later,
 }
 
@@ -71,7 +76,7 @@ impl From<&Statement> for Part {
 }
 
 impl Stage {
-    // The statement that has to follow.
+    /// The statement that has to follow.
     fn wanted(self) -> Wanted
         ensures { result ≡ wanted_in self }
     {
@@ -83,6 +88,7 @@ impl Stage {
         }
     }
 
+    /// How far the head is read behind one more statement, or the mistake of its line.
     fn next(self, line: usize, part: Part) -> Result<Stage, Mistake<Wanted>>
         ensures { result ≡ next self line part }
     {
@@ -102,7 +108,7 @@ impl Stage {
         }
     }
 
-    // The head, where the journal does not end before it does.
+    /// The head; a mistake on the line `end` where the journal ends before it is complete.
     fn head(self, end: usize) -> Result<Head, Mistake<Wanted>>
         ensures { result ≡ headed end self }
     {
@@ -116,13 +122,14 @@ impl Stage {
     }
 }
 
-// The head of a journal whose text ends before the line `end`, or the first line that is out of order.
-pub fn read_head(entries: &[Entry], end: usize) -> Result<Head, Mistake<Wanted>>
-    ensures { result ≡ head_of end (map placed entries.now) }
+/// The head of a journal whose text ends before the line `end`, or the first line that is out of order. A journal that
+/// ends too early lacks a statement on the line `end`.
+pub fn read_head(statements: &[JournalLine], end: usize) -> Result<Head, Mistake<Wanted>>
+    ensures { result ≡ head_of end (map placed statements.now) }
 {
     let mut stage = Stage::Start;
-    for one in entries {
-        stage = stage.next(one.line, Part::from(&one.statement))?;
+    for stated in statements {
+        stage = stage.next(stated.line, Part::from(&stated.statement))?;
     }
     stage.head(end)
 }

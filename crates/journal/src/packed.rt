@@ -1,4 +1,4 @@
-// A line of a text that is packed into a request file.
+//! A line of a text that is packed into a request file.
 ghost use Rattle.std.specs.Prelude.{◌≡◌, drop};
 ghost use Rattle.std.specs.Option.{option_map};
 ghost use Rattle.std.specs.Result.{result_map_both};
@@ -9,23 +9,29 @@ use crate::reader::Reader;
 use crate::statement::ParseError;
 use accounts::record::Line;
 
-// What the text asks for one account, and the host's remark, empty for none.
+/// What a line of the text asks for one account, and the host's remark.
 #[derive(Clone, Copy)]
 pub struct Packed<'a> {
+    /// The account and what is asked for it.
     pub line: Line,
+    /// The host's remark, empty for none.
     pub remark: &'a [u8],
 }
 
+/// What stands behind a space; nothing where nothing is left.
 fn behind_space(left: &[u8]) -> &[u8]
     ensures { result.now ≡ drop 1 left.now }
 {
     left.get(1..).unwrap_or(&[])
 }
 
-// What a line of the text says; nothing where it is blank or begins with `#`.
+/// What a line of the text says: the six fields of a line, then a space and the host's remark, which is what is left of
+/// the line. None where the line is blank or its first word begins with `#`; a field that is missing or another word in
+/// its place is told by what was expected.
 #[tactic(auto, using(crate::proofs::Packing::packs))]
 pub fn read_packed<'a>(text: &'a [u8]) -> Result<Option<Packed<'a>>, ParseError>
-    ensures { result_map_both (option_map (λ p. (p.line, p.remark.now))) (λ e. e) result ≡ packed_of text.now }
+    ensures { result_map_both (option_map (λ p. (p.line, p.remark.now))) (λ e. e) result
+        ≡ packed_of text.now }
 {
     match (Reader { left: text }).word() {
         Some(word) if !is_remark(word) => {}

@@ -1,11 +1,11 @@
-// What a line says.
+//! What a line says.
 ghost use Rattle.std.specs.Prelude.{◌≡◌, true, [], Ok, Err, OnOk, string_bytes};
 ghost use Rattle.std.specs.Option.{option_map};
 ghost use Rattle.journal.specs.declared.statement.ParseError.TheVariants.{NoMemory};
-ghost use Rattle.journal.specs.Words.{words, after_words, first, rest};
+ghost use Rattle.journal.specs.Words.{words, after_words, first, rest_from};
 ghost use Rattle.journal.specs.Fields.{method_of, book_of, open_of, rates_from, six_of, line_of, request_of, number_alone, account_and, end_at};
 ghost use Rattle.journal.specs.Results.{and_then};
-ghost use Rattle.journal.specs.Meanings.{meaning, says, keeps, is_remark, statement_of, asks_memory, Told};
+ghost use Rattle.journal.specs.Meanings.{meaning, says, keeps, is_remark, statement_of, asks_memory, Reads};
 
 use crate::keyword::Keyword;
 use crate::number::number;
@@ -15,6 +15,7 @@ use accounts::project::Project;
 use accounts::record::Line;
 use std::alloc::Global;
 
+/// The method's name.
 fn read_method(line: &mut Reader) -> Result<MethodName, ParseError>
     ensures { result ≡ method_of (words line.old.left.now) }
 {
@@ -27,6 +28,7 @@ fn read_method(line: &mut Reader) -> Result<MethodName, ParseError>
     Ok(name)
 }
 
+/// The kind of the book, and its places or bytes.
 fn read_book(line: &mut Reader) -> Result<BookKind, ParseError>
     ensures { result ≡ book_of (words line.old.left.now) }
 {
@@ -43,20 +45,21 @@ fn read_book(line: &mut Reader) -> Result<BookKind, ParseError>
     Ok(book)
 }
 
+/// The fewest lines of a request, and whether the project is a farm's.
 fn read_open(line: &mut Reader) -> Result<Project, ParseError>
     ensures { result ≡ open_of (words line.old.left.now) }
 {
-    // a larger number is read as the largest of its type, so that `as` cuts none, here and below
+    // a larger number is read as the largest of the type, so that `as` loses nothing, here and below
     let smallest = line.number(Expected::Smallest, u64::from(u32::MAX))? as u32;
     let farm = line.either(Expected::Project, ("farm", true), ("plain", false))?;
     line.end()?;
     Ok(Project { smallest, farm })
 }
 
-// The six fields of a line.
+/// The six fields of a line; words behind them are left.
 pub(crate) fn read_fields(line: &mut Reader) -> Result<Line, ParseError>
     ensures value { result ≡ six_of (words line.old.left.now) }
-    ensures left { OnOk result (words line.new.left.now ≡ rest (rest (rest (rest (rest (rest (words line.old.left.now))))))) }
+    ensures left { OnOk result (words line.new.left.now ≡ rest_from 6 (words line.old.left.now)) }
     ensures after { OnOk result (line.new.left.now ≡ after_words 6 line.old.left.now) }
 {
     let account = line.number(Expected::Account, u64::MAX)?;
@@ -75,6 +78,7 @@ pub(crate) fn read_fields(line: &mut Reader) -> Result<Line, ParseError>
     })
 }
 
+/// The six fields of a line, and no word behind them.
 fn read_line(line: &mut Reader) -> Result<Line, ParseError>
     ensures { result ≡ line_of (words line.old.left.now) }
 {
@@ -83,6 +87,7 @@ fn read_line(line: &mut Reader) -> Result<Line, ParseError>
     Ok(read)
 }
 
+/// A number alone.
 fn read_number(line: &mut Reader, what: Expected) -> Result<u64, ParseError>
     ensures { result ≡ number_alone what (words line.old.left.now) }
 {
@@ -91,7 +96,7 @@ fn read_number(line: &mut Reader, what: Expected) -> Result<u64, ParseError>
     Ok(n)
 }
 
-// An account and a number of its own: a pair, since each statement has another word for the number.
+/// An account and a number of its own.
 fn read_account_and(line: &mut Reader, what: Expected) -> Result<(u64, u64), ParseError>
     ensures { result ≡ account_and what (words line.old.left.now) }
 {
@@ -101,9 +106,10 @@ fn read_account_and(line: &mut Reader, what: Expected) -> Result<(u64, u64), Par
     Ok((account, n))
 }
 
+/// Rates, as many as there are words.
 #[tactic(auto, unfolding(crate::specs::Fields::rates_from))]
 fn read_rates(line: &mut Reader, heap: Global) -> Result<Vec<u32>, ParseError>
-    ensures { Told (λ rates. rates.items) (rates_from [] (words line.old.left.now)) result }
+    ensures { Reads (λ rates. rates.items) (rates_from [] (words line.old.left.now)) result }
 {
     let mut rates = Vec::new(heap);
     while let Some(word) = line.word() {
@@ -113,15 +119,16 @@ fn read_rates(line: &mut Reader, heap: Global) -> Result<Vec<u32>, ParseError>
     Ok(rates)
 }
 
+/// The name of a request file.
 fn read_request(line: &mut Reader, heap: Global) -> Result<String, ParseError>
-    ensures { Told (λ name. string_bytes name) (request_of (words line.old.left.now)) result }
+    ensures { Reads (λ name. string_bytes name) (request_of (words line.old.left.now)) result }
 {
     let name = line.text()?;
     line.end()?;
     Ok(String::from_str(heap, name)?)
 }
 
-// A statement of one word.
+/// A statement of one word.
 fn read_alone(line: &mut Reader, statement: Statement) -> Result<Statement, ParseError>
     ensures { result ≡ and_then (end_at (first (words line.old.left.now))) (λ _. Ok statement) }
 {
@@ -129,13 +136,13 @@ fn read_alone(line: &mut Reader, statement: Statement) -> Result<Statement, Pars
     Ok(statement)
 }
 
-// The statement of a first word and the words behind it.
+/// The statement of a first word and the words behind it.
 fn read_statement(
     keyword: Keyword,
     line: &mut Reader,
     heap: Global,
 ) -> Result<Statement, ParseError>
-    ensures value { Told meaning (says keyword (words line.old.left.now)) result }
+    ensures value { Reads meaning (says keyword (words line.old.left.now)) result }
     ensures memory { result ≡ Err NoMemory → keeps keyword ≡ true }
 {
     match keyword {
@@ -146,7 +153,6 @@ fn read_statement(
         Keyword::Line => Ok(Statement::Line(read_line(line)?)),
         Keyword::Request => Ok(Statement::Request(read_request(line, heap)?)),
         Keyword::Reading => Ok(Statement::Reading(read_number(line, Expected::Units)?)),
-        // no helper for the next three: it would take the variant as a closure and have to promise what that makes
         Keyword::Bill => {
             let (account, cents) = read_account_and(line, Expected::Cents)?;
             Ok(Statement::Bill { account, cents })
@@ -165,16 +171,19 @@ fn read_statement(
     }
 }
 
+/// Whether a line's first word makes it a remark.
 pub(crate) fn is_remark(word: &[u8]) -> bool
     ensures { result ≡ is_remark word.now }
 {
     word.first() == Some(&b'#')
 }
 
-// The statement of a line; none where the line is blank or a remark, which begins with `#`.
+/// The statement of a line; none where the line is blank or a remark, which begins with `#`. A line that says no
+/// statement is told by the first word that is missing or has another in its place. Memory is asked for rates and for
+/// the name of a file alone.
 #[tactic(auto, using(crate::proofs::Saying::saying))]
 pub fn parse(line: &[u8], heap: Global) -> Result<Option<Statement>, ParseError>
-    ensures value { Told (option_map meaning) (statement_of line.now) result }
+    ensures value { Reads (option_map meaning) (statement_of line.now) result }
     ensures memory { result ≡ Err NoMemory → asks_memory (words line.now) ≡ true }
 {
     let mut left = Reader { left: line };

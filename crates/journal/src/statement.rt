@@ -1,4 +1,4 @@
-// What a journal's line can say, and what is expected of a line that cannot be understood.
+//! What a journal's line can say, and what is expected of a line that cannot be understood.
 ghost use Rattle.std.specs.Prelude.{◌≡◌, Some};
 ghost use Rattle.journal.specs.declared.statement.ParseError.TheVariants.{NoMemory};
 ghost use Rattle.journal.specs.Mistakes.{expected_text, parse_error_text};
@@ -9,44 +9,56 @@ use std::alloc::{AllocError, AllocFailed};
 use std::error::Error;
 use std::fmt;
 
-// The crediting method.
+/// The name of a crediting method.
 #[derive(Clone, Copy, PartialEq, Eq, Debug)]
 pub enum MethodName {
+    /// Units are worth cents.
     ValueStack,
+    /// Units are kilowatt-hours, each worth the rate of the account's class.
     Volumetric,
 }
 
-// The account book, empty: a table of so many places, or an image in so many bytes.
+/// The account book, empty.
 #[derive(Clone, Copy, PartialEq, Eq, Debug)]
 pub enum BookKind {
+    /// A table of so many places.
     Table { places: u64 },
+    /// An image in so many bytes.
     Image { bytes: u64 },
 }
 
+/// What a line of a journal says.
 #[derive(Debug, Drop)]
 pub enum Statement {
+    /// The method of the ledger.
     Method(MethodName),
+    /// The account book of the ledger.
     Book(BookKind),
-    // opens the ledger
+    /// Opens the ledger.
     Open(Project),
-    // the volumetric rates of the bills that follow
+    /// The volumetric rates of the bills that follow.
     Rates(Vec<u32>),
-    // one more line in hand
+    /// One more line in hand.
     Line(Line),
-    // the lines of a request file in the place of those in hand
+    /// The lines of a request file, by its name, in the place of those in hand.
     Request(String),
-    // enrols the lines in hand
+    /// Enrols the lines in hand.
     Enrol,
+    /// The reading of the open period, in units.
     Reading(u64),
+    /// A bill of an account.
     Bill { account: u64, cents: u64 },
-    // the last bill of an account
+    /// The last bill of an account.
     Final { account: u64, cents: u64 },
+    /// Pays units of the bank out to an account.
     Disburse { account: u64, units: u64 },
+    /// Forfeits the units that are left in the bank.
     Lapse,
+    /// Closes the open period.
     Close,
 }
 
-// The word that a line lacks, or has another in its place; `End`: a word too many.
+/// The word that a line lacks, or in the place of which it has another.
 #[derive(Clone, Copy, PartialEq, Eq, Debug)]
 pub enum Expected {
     Statement,
@@ -54,6 +66,7 @@ pub enum Expected {
     Book,
     Places,
     Bytes,
+    /// The smallest number of lines of a request.
     Smallest,
     Project,
     Rate,
@@ -66,6 +79,7 @@ pub enum Expected {
     File,
     Units,
     Cents,
+    /// The end of the line: it has a word too many.
     End,
 }
 
@@ -97,10 +111,12 @@ impl fmt::Display for Expected {
     }
 }
 
-// Why a line is not understood: by a mistake in it, or for want of memory.
+/// Why a line is not understood.
 #[derive(Clone, Copy, PartialEq, Eq, Debug)]
 pub enum ParseError {
+    /// A word is missing or has another in its place.
     Expected(Expected),
+    /// There is no memory for the statement.
     NoMemory,
 }
 

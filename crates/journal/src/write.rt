@@ -1,4 +1,4 @@
-// The text of a statement, which reads as the statement again.
+//! The text of a statement, which reads as the statement again.
 ghost use Rattle.std.specs.Prelude.{Some, IfOk, string_bytes};
 ghost use Rattle.journal.specs.Meanings.{meaning, an_opening, some_rates, a_line};
 ghost use Rattle.journal.specs.Texts.{method_text, Written};
@@ -21,16 +21,17 @@ impl fmt::Display for MethodName {
     }
 }
 
+/// The line that opens the ledger of a project.
 #[tactic(auto, using(crate::proofs::Rewriting::reads_again))]
 fn write_open(project: Project, heap: Global) -> Result<String, AllocError>
     ensures { IfOk result (λ s. Written (an_opening project) (string_bytes s)) }
 {
     let smallest = project.smallest;
-    // `farm` is a bool of the accounts' own; a type that prints its two words would be made for this line alone
     let mark = if project.farm { "farm" } else { "plain" };
     format!(in heap; "open {smallest} {mark}")
 }
 
+/// The line of rates.
 fn write_rates(rates: &[u32], heap: Global) -> Result<String, AllocError>
     ensures { IfOk result (λ s. Written (some_rates rates.now) (string_bytes s)) }
 {
@@ -41,6 +42,7 @@ fn write_rates(rates: &[u32], heap: Global) -> Result<String, AllocError>
     Ok(text)
 }
 
+/// The line of a line in hand.
 #[tactic(auto, using(crate::proofs::Rewriting::reads_again))]
 fn write_line(line: Line, heap: Global) -> Result<String, AllocError>
     ensures { IfOk result (λ s. Written (a_line line) (string_bytes s)) }
@@ -56,8 +58,8 @@ fn write_line(line: Line, heap: Global) -> Result<String, AllocError>
     format!(in heap; "line {account} {percentage} {savings} {class} {size} {kind}")
 }
 
-// A statement's line, without its end. The line of a request is read again only where the file's name is one word.
-// No Display: that the line is read again rests on the range of each number, which is known where the number is read.
+/// A statement's line, without its end. It is read as the statement again; the line of a request only where the file's
+/// name is one word.
 #[tactic(auto, using(crate::proofs::Rewriting::reads_again))]
 pub fn write(statement: &Statement, heap: Global) -> Result<String, AllocError>
     ensures { IfOk result (λ s. Written (meaning statement.now) (string_bytes s)) }
