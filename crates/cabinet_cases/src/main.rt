@@ -1,6 +1,6 @@
-// Asks the cabinet for what the year's journal does not: packs and shows request files, prints the report of a quarter
-// and of a farm's project, hands it a journal and nothing as its input, and gives it texts, files, journals and options with a
-// mistake.
+//! Asks the cabinet for what the year's journal does not: packs and shows request files, prints the reports of a quarter,
+//! of a farm's project and of a month whose credits are published, hands it journals and nothing as its input, and gives it
+//! texts, files, journals and options with a mistake.
 #![tactic(auto)]
 
 use cabinet_tasks::arguments::{finish, perform};
@@ -8,8 +8,10 @@ use cabinet_tasks::ending::Ending;
 use std::fs;
 use std::process::ExitCode;
 
+/// An empty input.
 const NOTHING: &[u8] = &[];
 
+/// The line with which a person would ask.
 fn print_words(rt: &HostRuntime, words: &[&str]) -> anyhow::Result<()> {
     print!(rt; "$ cabinet")?;
     for word in words {
@@ -18,7 +20,7 @@ fn print_words(rt: &HostRuntime, words: &[&str]) -> anyhow::Result<()> {
     Ok(())
 }
 
-// How a task ended, or what was wrong.
+/// How a task ended, or what was wrong.
 fn print_end(rt: &HostRuntime, end: anyhow::Result<Ending>) -> anyhow::Result<()> {
     match end {
         Ok(ending) => println!(rt; "{ending}")?,
@@ -28,14 +30,14 @@ fn print_end(rt: &HostRuntime, end: anyhow::Result<Ending>) -> anyhow::Result<()
     Ok(())
 }
 
-// Asks with an empty input.
+/// Asks with an empty input.
 fn ask(rt: &HostRuntime, words: &[&str]) -> anyhow::Result<()> {
     print_words(rt, words)?;
     println!(rt; "")?;
     print_end(rt, perform(rt, NOTHING, words))
 }
 
-// Asks with a journal as its input.
+/// Asks with the journal in a file as its input.
 fn pipe(rt: &HostRuntime, journal: &str, words: &[&str]) -> anyhow::Result<()> {
     let text = fs::read(rt, journal)?;
     print_words(rt, words)?;
@@ -43,7 +45,14 @@ fn pipe(rt: &HostRuntime, journal: &str, words: &[&str]) -> anyhow::Result<()> {
     print_end(rt, perform(rt, text.as_slice(), words))
 }
 
-// It ends as the cabinet does on a request file that is refused: with status 1.
+/// Asks with the program's own standard input.
+fn ask_on_standard_input(rt: &HostRuntime, words: &[&str]) -> anyhow::Result<()> {
+    print_words(rt, words)?;
+    println!(rt; " < stdin")?;
+    print_end(rt, perform(rt, rt.stdin(), words))
+}
+
+// it ends as the cabinet does on a request file that is refused: with status 1
 fn main(rt: HostRuntime) -> anyhow::Result<ExitCode> {
     ask(&rt, &["--pack", "lines.txt", "lines.req"])?;
     ask(&rt, &["--pack", "spaced.txt", "spaced.req"])?;
@@ -91,5 +100,8 @@ fn main(rt: HostRuntime) -> anyhow::Result<ExitCode> {
     ask(&rt, &["--print"])?;
     ask(&rt, &["--report", "quarter.journal", "short.journal"])?;
     ask(&rt, &["--help"])?;
+    ask(&rt, &["--report", "published_month.journal"])?;
+    ask(&rt, &["published_month.journal"])?;
+    ask_on_standard_input(&rt, &["--report"])?;
     finish(&rt, perform(&rt, NOTHING, &["--show", "torn.req"]))
 }

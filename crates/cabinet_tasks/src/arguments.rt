@@ -1,18 +1,19 @@
-// What the words behind the program's name ask for, and how the program ends.
-use super::books::{post_file, post_input};
-use super::ending::Ending;
-use super::files::{pack, show};
-use super::help::HELP;
-use super::log::Log;
-use super::report::Report;
+//! What the words behind the program's name ask for, and how the program ends.
+use crate::books::{post_file, post_input};
+use crate::ending::Ending;
+use crate::files::{pack, show};
+use crate::help::HELP;
+use crate::log::Log;
+use crate::report::Report;
 use anyhow::bail;
 use std::env;
 use std::io::{Eprint, Read};
 use std::process::ExitCode;
 
+/// Where people find what the program can be asked.
 const EXPLAINED: &str = "cabinet --help explains";
 
-// The program: reads its words, performs them on standard input, and ends.
+/// The program: reads its words, performs them on standard input, and ends with a status.
 pub fn run(rt: &HostRuntime) -> anyhow::Result<ExitCode> {
     let heap = rt.alloc();
     let args: Vec<String> = env::args(rt)?.skip(1).collect(heap)?;
@@ -20,7 +21,8 @@ pub fn run(rt: &HostRuntime) -> anyhow::Result<ExitCode> {
     finish(rt, perform(rt, rt.stdin(), words.as_slice()))
 }
 
-// A journal that the words do not name stands on `input`.
+/// Performs what the words behind the program's name ask for. A journal that they do not name stands on `input`. The error
+/// says what could not be understood, read or done.
 pub fn perform<I: Read + Drop>(
     rt: &HostRuntime,
     input: I,
@@ -44,7 +46,7 @@ pub fn perform<I: Read + Drop>(
     }
 }
 
-// The status of the program; what could not be understood, read or done is told on standard error.
+/// The status of the program; what could not be understood, read or done is told on standard error.
 pub fn finish<R: Eprint>(rt: &R, end: anyhow::Result<Ending>) -> anyhow::Result<ExitCode> {
     match end {
         Ok(ending) => Ok(ending.into()),

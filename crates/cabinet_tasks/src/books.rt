@@ -1,9 +1,9 @@
-// Posts a journal by the method and in the book that its head names.
-use super::ending::Ending;
-use super::files::read_file;
-use super::journals::{folder_of, journal_of};
-use super::paper::Paper;
-use super::progress::Progress;
+//! Posts a journal by the method and in the book that its head names.
+use crate::ending::Ending;
+use crate::files::read_file;
+use crate::journals::{folder_of, journal_of};
+use crate::printout::Printout;
+use crate::progress::Progress;
 use accounts::book::AccountBook;
 use base::limits;
 use accounts::record::Record;
@@ -23,59 +23,60 @@ use journal::statement::{BookKind, MethodName};
 use std::io::Read;
 use books::table::TableBook;
 
+/// The most records of a book.
 const MOST_RECORDS: u64 = limits::MOST_RECORDS as u64;
 
-// a count of four bytes, and the records
+/// The most bytes of an image: a count of four bytes, and the records.
 const MOST_IMAGE: u64 = 4 + RECORD_BYTES as u64 * MOST_RECORDS;
 
-// Four slots to a record, so that an account is mostly found at the first look.
+/// How many hints an index has: four to a record, so that an account is mostly found at the first look.
 const SLOTS: usize = 4 * limits::MOST_RECORDS;
 
-// Posts the journal that stands on an input.
-pub fn post_input<P: Paper, I: Read + Drop>(
+/// Posts the journal that stands on an input.
+pub fn post_input<P: Printout, I: Read + Drop>(
     rt: &HostRuntime,
-    paper: &P,
+    printout: &P,
     mut input: I,
 ) -> anyhow::Result<Ending> {
     let mut text = Vec::new(rt.alloc());
     input.read_to_end(&mut text)?;
-    post_text(rt, paper, "", text.as_slice())
+    post_text(rt, printout, "", text.as_slice())
 }
 
-// Posts the journal in a file.
-pub fn post_file<P: Paper>(rt: &HostRuntime, paper: &P, name: &str) -> anyhow::Result<Ending> {
+/// Posts the journal in a file. Request files that it names are looked for where the program runs, and then beside it.
+pub fn post_file<P: Printout>(rt: &HostRuntime, printout: &P, name: &str) -> anyhow::Result<Ending> {
     let text = read_file(rt, name)?;
-    post_text(rt, paper, folder_of(name), text.as_slice())
+    post_text(rt, printout, folder_of(name), text.as_slice())
 }
 
-// Posts a journal's text, once all of it is understood.
-fn post_text<P: Paper>(
+/// Posts a journal's text, once all of it is understood.
+fn post_text<P: Printout>(
     rt: &HostRuntime,
-    paper: &P,
+    printout: &P,
     folder: &str,
     text: &[u8],
 ) -> anyhow::Result<Ending> {
     let mut progress = Progress::start(rt)?;
     let journal = journal_of(&mut progress, folder, text)?;
-    let entries = journal.entries.as_slice();
-    let head = read_head(entries, journal.lines.saturating_add(1))?;
+    let statements = journal.statements.as_slice();
+    let head = read_head(statements, journal.lines.saturating_add(1))?;
     match head.method {
         MethodName::ValueStack => {
-            post_in_book::<ValueStack, P>(&mut progress, paper, head, entries)?
+            post_in_book::<ValueStack, P>(&mut progress, printout, head, statements)?
         }
         MethodName::Volumetric => {
-            post_in_book::<Volumetric, P>(&mut progress, paper, head, entries)?
+            post_in_book::<Volumetric, P>(&mut progress, printout, head, statements)?
         }
     }
     Ok(Ending::Done)
 }
 
-// Posts entries in a new book of the kind that the head names.
-fn post_in_book<M: Rated + Drop, P: Paper>(
+/// Posts statements in a new book of the kind that the head names.
+fn post_in_book<M: Rated + Drop, P: Printout>(
     progress: &mut Progress<HostRuntime>,
-    paper: &P,
+    printout: &P,
     head: Head,
-    entries: &[Entry],
+    statements: &[JournalLine],
 ) -> anyhow::Result<()> {
     let rt = progress.rt;
     let heap = rt.alloc();
@@ -83,7 +84,7 @@ fn post_in_book<M: Rated + Drop, P: Paper>(
         BookKind::Table { places } => {
             let mut table = vec![in heap; Record::default(); places.min(MOST_RECORDS) as usize]?;
             let mut book = TableBook::new(table.as_mut_slice());
-            post_indexed::<M, TableBook, P>(progress, paper, head, &mut book, entries)
+            post_indexed::<M, TableBook, P>(progress, printout, head, &mut book, statements)
         }
         BookKind::Image { bytes } => {
             let mut image = vec![in heap; 0u8; bytes.min(MOST_IMAGE) as usize]?;
@@ -93,23 +94,23 @@ fn post_in_book<M: Rated + Drop, P: Paper>(
                 return Ok(());
             }
             let mut book = ImageBook::start(image.as_mut_slice());
-            post_indexed::<M, ImageBook, P>(progress, paper, head, &mut book, entries)
+            post_indexed::<M, ImageBook, P>(progress, printout, head, &mut book, statements)
         }
     }
 }
 
-// Posts entries in a book, with hints of where its accounts stand.
-fn post_indexed<M: Rated + Drop, B: AccountBook, P: Paper>(
+/// Posts statements in a book, with hints of where its accounts stand.
+fn post_indexed<M: Rated + Drop, B: AccountBook, P: Printout>(
     progress: &mut Progress<HostRuntime>,
-    paper: &P,
+    printout: &P,
     head: Head,
     book: &mut B,
-    entries: &[Entry],
+    statements: &[JournalLine],
 ) -> anyhow::Result<()> {
     let heap = progress.rt.alloc();
-    let plan: Plan<M> = plan(entries, heap)?;
+    let plan: Plan<M> = plan(statements, heap)?;
     progress.tell(plan.calls.len(), "calls are to be posted")?;
     let mut hints = vec![in heap; None; SLOTS]?;
     let mut book = IndexedBook::new(book, hints.as_mut_slice());
-    paper.print(progress, head.project, &mut book, &plan)
+    printout.print(progress, head.project, &mut book, &plan)
 }

@@ -1,11 +1,13 @@
-// How a task ends.
+//! How a task ends.
 use std::fmt;
 use std::process::ExitCode;
 
+/// How a task ends that could be understood and performed.
 #[derive(Clone, Copy, PartialEq, Eq, Debug)]
 pub enum Ending {
+    /// It is done.
     Done,
-    // what is printed says why
+    /// A file is refused; what is printed says why.
     Refused,
 }
 

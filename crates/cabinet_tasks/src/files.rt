@@ -1,5 +1,5 @@
-// Packs and shows request files.
-use super::ending::Ending;
+//! Packs and shows request files.
+use crate::ending::Ending;
 use accounts::record::Line;
 use desk::refusal::refusal_line;
 use anyhow::{anyhow, bail};
@@ -14,10 +14,10 @@ use journal::write::write as write_statement;
 use std::fs;
 use std::str::from_utf8;
 
-// The first word of a line's statement, and a space.
+/// The first word of a line's statement, and a space.
 const LINE_WORD: &str = "line ";
 
-// The bytes of a file.
+/// The bytes of a file.
 pub(crate) fn read_file(rt: &HostRuntime, name: &str) -> anyhow::Result<Vec<u8>> {
     match fs::read(rt, name) {
         Ok(bytes) => Ok(bytes),
@@ -25,7 +25,7 @@ pub(crate) fn read_file(rt: &HostRuntime, name: &str) -> anyhow::Result<Vec<u8>>
     }
 }
 
-// Why lines cannot be packed, with the line of the text where it is one line's fault.
+/// Why lines cannot be packed, with the line of the text where it is one line's fault.
 fn unpacked(why: WriteRefusal, numbers: &[usize]) -> anyhow::Error {
     let line = match why {
         WriteRefusal::Number { place } | WriteRefusal::Remark { place } => numbers.get(place),
@@ -37,15 +37,15 @@ fn unpacked(why: WriteRefusal, numbers: &[usize]) -> anyhow::Error {
     }
 }
 
-// Writes a request file from a text of lines and remarks.
+/// Writes a request file from a text of lines and remarks.
 pub fn pack(rt: &HostRuntime, text: &str, file: &str) -> anyhow::Result<Ending> {
     let heap = rt.alloc();
     let bytes = read_file(rt, text)?;
     let Ok(lines) = from_utf8(bytes.as_slice()) else {
         bail!("cabinet: {text} is no text");
     };
-    let mut entries = Vec::new(heap);
-    // beside the entries, which the writer takes as they stand
+    let mut filed = Vec::new(heap);
+    // the line of the text for each of them
     let mut numbers = Vec::new(heap);
     for (place, words) in lines.lines().enumerate() {
         let number = place.saturating_add(1);
@@ -53,21 +53,21 @@ pub fn pack(rt: &HostRuntime, text: &str, file: &str) -> anyhow::Result<Ending> 
             "text line {number}: {why}"
         ))?;
         if let Some(Packed { line, remark }) = packed {
-            entries.push(Entry { line, remark })?;
+            filed.push(FiledLine { line, remark })?;
             numbers.push(number)?;
         }
     }
-    let packed = write(entries.as_slice(), heap).map_err(|why| unpacked(why, numbers.as_slice()))?;
+    let packed = write(filed.as_slice(), heap).map_err(|why| unpacked(why, numbers.as_slice()))?;
     if let Err(why) = fs::write(rt, file, packed.as_slice()) {
         bail!("cabinet: {file} cannot be written: {why}");
     }
-    let lines = entries.len();
+    let lines = filed.len();
     let size = packed.len();
     println!(rt; "{file}: {lines} lines, {size} bytes")?;
     Ok(Ending::Done)
 }
 
-// Prints a line in the form in which it is packed: as a journal's statement, without its first word.
+/// Prints a line in the form in which it is packed: as a journal's statement, without its first word.
 fn show_line(rt: &HostRuntime, file: &[u8], place: usize, line: &Line) -> anyhow::Result<()> {
     let statement = write_statement(&Statement::Line(*line), rt.alloc())?;
     match statement.as_str().strip_prefix(LINE_WORD) {
@@ -85,11 +85,10 @@ fn show_line(rt: &HostRuntime, file: &[u8], place: usize, line: &Line) -> anyhow
     Ok(())
 }
 
-// Prints the lines of a request file with their remarks, or why it is refused.
+/// Prints the lines of a request file with their remarks, or why it is refused.
 pub fn show(rt: &HostRuntime, name: &str) -> anyhow::Result<Ending> {
     let bytes = read_file(rt, name)?;
     let file = bytes.as_slice();
-    // the reader writes to a table that is lent to it, and answers how many places it took
     let mut table = vec![in rt.alloc(); Line::default(); MAX_LINES]?;
     match read(file, table.as_mut_slice()) {
         Ok(lines) => {

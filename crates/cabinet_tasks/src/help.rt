@@ -1,4 +1,6 @@
-// What people are told of journals and options, in one screen.
+//! What people are told of journals and options.
+
+/// The help, in one screen.
 pub const HELP: &str = "\
 cabinet [JOURNAL]          posts a journal; with no name it reads standard input
 cabinet --report [JOURNAL]

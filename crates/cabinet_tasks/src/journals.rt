@@ -1,18 +1,18 @@
-// Reads a journal with the request files that it names.
-use super::progress::Progress;
+//! Reads a journal with the request files that it names.
+use crate::progress::Progress;
 use journal::text::{Journal, read_journal};
 use journal::line::JournalLine;
 use journal::mistake::Mistake;
 use journal::statement::Statement;
 use std::fs;
 
-// The folder of a journal, with the bar behind it; empty where its name has none.
+/// The folder of a journal, with the bar behind it; empty where its name has none.
 pub(crate) fn folder_of(name: &str) -> &str {
     let length = name.rfind('/').map_or(0, |bar| bar.saturating_add(1));
     name.get(..length).unwrap_or("")
 }
 
-// The bytes of a request file: by its name as it stands, or else from the folder of the journal.
+/// The bytes of a request file: by its name as it stands, or else from the folder of the journal.
 fn request_bytes(rt: &HostRuntime, folder: &str, name: &str) -> anyhow::Result<Option<Vec<u8>>> {
     if let Ok(bytes) = fs::read(rt, name) {
         return Ok(Some(bytes));
@@ -21,13 +21,17 @@ fn request_bytes(rt: &HostRuntime, folder: &str, name: &str) -> anyhow::Result<O
     Ok(fs::read(rt, beside.as_str()).ok())
 }
 
-// Reads the request files that entries name; one that cannot be read is a mistake of its line.
-fn read_requests(rt: &HostRuntime, folder: &str, entries: &mut [Entry]) -> anyhow::Result<()> {
-    for entry in entries.iter_mut() {
-        if let Statement::Request(name) = &entry.statement {
+/// Reads the request files that statements name; one that cannot be read is a mistake of its line.
+fn read_requests(
+    rt: &HostRuntime,
+    folder: &str,
+    statements: &mut [JournalLine],
+) -> anyhow::Result<()> {
+    for stated in statements.iter_mut() {
+        if let Statement::Request(name) = &stated.statement {
             let bytes = request_bytes(rt, folder, name.as_str())?;
-            entry.file = bytes.ok_or(Mistake {
-                line: entry.line,
+            stated.file = bytes.ok_or(Mistake {
+                line: stated.line,
                 wanted: "a request file that can be read",
             })?;
         }
@@ -35,7 +39,7 @@ fn read_requests(rt: &HostRuntime, folder: &str, entries: &mut [Entry]) -> anyho
     Ok(())
 }
 
-// The journal of a text with its request files.
+/// The journal of a text with its request files.
 pub(crate) fn journal_of(
     progress: &mut Progress<HostRuntime>,
     folder: &str,
@@ -44,6 +48,6 @@ pub(crate) fn journal_of(
     let rt = progress.rt;
     let mut journal = read_journal(text, rt.alloc())?;
     progress.tell(journal.lines, "lines are read")?;
-    read_requests(rt, folder, journal.entries.as_mut_slice())?;
+    read_requests(rt, folder, journal.statements.as_mut_slice())?;
     Ok(journal)
 }

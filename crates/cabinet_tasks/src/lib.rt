@@ -1,4 +1,4 @@
-// What the cabinet does: posts journals, prints the host's monthly report, packs and shows request files.
+//! What the cabinet does: posts journals, prints the host's monthly report, packs and shows request files.
 #![tactic(auto)]
 
 pub mod arguments;
@@ -8,6 +8,6 @@ pub mod files;
 pub mod help;
 mod journals;
 pub mod log;
-pub mod paper;
+pub mod printout;
 pub mod progress;
 pub mod report;

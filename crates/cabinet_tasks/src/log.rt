@@ -1,6 +1,6 @@
-// The log of a journal: a line for each statement that answers, and the books as they stand.
-use super::paper::Paper;
-use super::progress::Progress;
+//! The log of a journal: a line for each statement that answers, and the books as they stand.
+use crate::printout::Printout;
+use crate::progress::Progress;
 use accounts::book::AccountBook;
 use accounts::project::Project;
 use desk::answers::OPENED;
@@ -10,21 +10,23 @@ use crediting::method::CreditMethod;
 use ledger_run::refusal::RunRefusal;
 use ledger_run::run::run;
 use desk::log::{is_call, note_line};
-use desk::summing::{cent_totals, unit_totals};
-use ledger::call::{Done, Refusal};
+use desk::totals::{cent_totals, unit_totals};
+use ledger::answer::Done;
+use ledger::refusal::Refusal;
 use ledger::ledger::Ledger;
 use desk::note::Note;
 use desk::plan::Plan;
 use desk::amounts::Performed;
 use std::io::{BufWriter, Write};
 
-// How many lines are printed between two looks at the clock.
+/// How many lines are printed between two looks at the clock.
 const LINES_TO_A_LOOK: usize = 8_192;
 
+/// Prints a journal's log.
 #[derive(Clone, Copy, PartialEq, Eq, Debug)]
 pub struct Log;
 
-impl Paper for Log {
+impl Printout for Log {
     fn print<M: CreditMethod + Drop, B: AccountBook>(
         &self,
         progress: &mut Progress<HostRuntime>,
@@ -63,7 +65,7 @@ impl Paper for Log {
     }
 }
 
-// A line for each statement that answers; those that are calls take the answers in order.
+/// A line for each statement that answers; those that are calls take the answers in order.
 fn print_answers<W: Write>(
     progress: &mut Progress<HostRuntime>,
     out: &mut W,
@@ -87,6 +89,7 @@ fn print_answers<W: Write>(
     Ok(())
 }
 
+/// The line of the ledger, and one for each account.
 fn print_books<W: Write, B: AccountBook>(
     rt: &HostRuntime,
     out: &mut W,

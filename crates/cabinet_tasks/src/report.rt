@@ -1,12 +1,13 @@
-// The host's report: the summary and the payment of each period as it is closed.
-use super::paper::Paper;
-use super::progress::Progress;
+//! The host's report: the summary and the payment of each period as it is closed.
+use crate::printout::Printout;
+use crate::progress::Progress;
 use accounts::book::AccountBook;
 use accounts::project::Project;
 use accounts::record::Record;
 use desk::refusal::refusal_line;
 use crediting::method::CreditMethod;
-use ledger::call::{Call, Done, Settlement};
+use ledger::answer::{Done, Settlement};
+use ledger::call::Call;
 use ledger::ledger::Ledger;
 use ledger::phase::Phase;
 use desk::plan::Plan;
@@ -17,18 +18,18 @@ use report::table::{Bank, HEADS, bank_line, row_line, satellites_line};
 use std::alloc::{AllocError, Global};
 use std::io::{BufWriter, Write};
 
-// What is known of the open period.
+/// What is known of the open period.
 #[derive(Drop)]
 struct Sheet {
     period: u32,
     reading: u64,
     bank: Bank,
-    // in book order
+    // in the order of the book
     rows: Vec<Row>,
 }
 
 impl Sheet {
-    // Notes what a performed call did in the open period.
+    /// Notes what a performed call did in the open period.
     fn note<M, B: AccountBook>(&mut self, book: &B, call: &Call<M>, done: &Done) {
         let account = match call {
             Call::Bill { account, .. } | Call::FinalBill { account, .. } => *account,
@@ -40,13 +41,14 @@ impl Sheet {
     }
 }
 
+/// The records of a book.
 fn records<B: AccountBook>(book: &B, heap: Global) -> Result<Vec<Record>, AllocError> {
     (0..book.count())
         .filter_map(|place| book.get(place))
         .collect(heap)
 }
 
-// Prints a period's report.
+/// Prints a period's report.
 fn print_sheet<W: Write>(
     out: &mut W,
     sheet: &Sheet,
@@ -85,7 +87,7 @@ fn print_sheet<W: Write>(
     Ok(())
 }
 
-// Performs calls one by one, and prints the report of each period that is closed; answers how many were refused.
+/// Performs calls one by one, and prints the report of each period that is closed; answers how many were refused.
 fn print_periods<M: CreditMethod, B: AccountBook, W: Write>(
     progress: &mut Progress<HostRuntime>,
     out: &mut W,
@@ -133,10 +135,11 @@ fn print_periods<M: CreditMethod, B: AccountBook, W: Write>(
     Ok(refused)
 }
 
+/// Prints the host's monthly report.
 #[derive(Clone, Copy, PartialEq, Eq, Debug)]
 pub struct Report;
 
-impl Paper for Report {
+impl Printout for Report {
     fn print<M: CreditMethod + Drop, B: AccountBook>(
         &self,
         progress: &mut Progress<HostRuntime>,

@@ -1,10 +1,10 @@
 -- The line of each answer.
 use Rattle.std.specs.Prelude.{ℕ, List, ◌++◌, Ok, Err, codes, decimal, Result}
-use Rattle.ledger.specs.declared.call.Done.{Done}
-use Rattle.ledger.specs.declared.call.Done.TheVariants.{Enrolled, Opened, Billed, FinallyBilled, Disbursed, Lapsed, Closed}
-use Rattle.ledger.specs.declared.call.Posting.{Posting}
-use Rattle.ledger.specs.declared.call.Refusal.{Refusal}
-use Rattle.ledger.specs.declared.call.Settlement.{Settlement}
+use Rattle.ledger.specs.declared.answer.Done.{Done}
+use Rattle.ledger.specs.declared.answer.Done.TheVariants.{Enrolled, Opened, Billed, FinallyBilled, Disbursed, Lapsed, Closed}
+use Rattle.ledger.specs.declared.answer.Posting.{Posting}
+use Rattle.ledger.specs.declared.refusal.Refusal.{Refusal}
+use Rattle.ledger.specs.declared.answer.Settlement.{Settlement}
 use Rattle.ledger.specs.Refusals.{number, place, reason}
 use Rattle.desk.specs.RefusalLines.{refused_text}
 

@@ -4,8 +4,8 @@ use Rattle.crediting.specs.Refusals.{number, place, reason}
 use Rattle.crediting.specs.declared.rates.RatesRefusal.{RatesRefusal}
 use Rattle.requests.specs.Causes.{number_of, place_of, words_of}
 use Rattle.requests.specs.declared.fault.RequestRefusal.{RequestRefusal}
-use Rattle.ledger.specs.declared.call.Done.{Done}
-use Rattle.ledger.specs.declared.call.Refusal.{Refusal}
+use Rattle.ledger.specs.declared.answer.Done.{Done}
+use Rattle.ledger.specs.declared.refusal.Refusal.{Refusal}
 use Rattle.desk.specs.Answers.{answer_text, request_text}
 use Rattle.desk.specs.RefusalLines.{refused_text}
 use Rattle.desk.specs.declared.note.Note.{Note}

@@ -1,14 +1,14 @@
 -- The calls and the notes of a journal, statement by statement.
-use Rattle.std.specs.Prelude.{ℕ, List, [], ◌∷◌, ◌++◌, map, replicate, Ok, Err, vec_items, Result, fold}
+use Rattle.std.specs.Prelude.{◌≡◌, ℕ, List, [], ◌∷◌, ◌++◌, map, replicate, Ok, Err, vec_items, Result, fold}
 use Rattle.accounts.specs.declared.record.Line.{Line}
+use Rattle.base.specs.Limits.{classes, most_lines}
 use Rattle.crediting.specs.Refusals.{judged}
 use Rattle.crediting.specs.declared.rates.RatesRefusal.{RatesRefusal}
 use Rattle.requests.specs.Meaning.{reading, counted}
 use Rattle.requests.specs.declared.fault.RequestRefusal.{RequestRefusal}
-use Rattle.journal.specs.Meanings.{Meaning, meaning}
-use Rattle.journal.specs.Meanings as said
+use Rattle.journal.specs.Meanings.{Meaning}
+use Rattle.journal.specs.Meanings as statement
 use Rattle.desk.specs.Deeds.{Deed, deed, an_enrolment, a_reading, a_bill, a_final_bill, a_disbursement, a_lapse, a_close}
-use Rattle.journal.specs.declared.line.JournalLine.{JournalLine}
 use Rattle.desk.specs.declared.note.Note.{Note}
 use Rattle.desk.specs.declared.note.Note.TheVariants as note
 use Rattle.desk.specs.declared.plan.Plan.{Plan}
@@ -20,6 +20,7 @@ pub record State : Type 0 where
   pub calls : List Deed
   pub notes : List Note
 
+-- what a plan shows, by the worth of a method
 abbrev pub seen : {M : Type 0} → (M → ℕ → ℕ → ℕ) → Plan M → State
 seen worth p =
     record {
@@ -29,9 +30,13 @@ seen worth p =
       notes = vec_items p.notes;
     }
 
+-- a plan, old and new, where what it shows is changed
+abbrev pub Becomes : {M : Type 0} → (M → ℕ → ℕ → ℕ) → Plan M → Plan M → (State → State) → Type 0
+Becomes worth old new change = seen worth new ≡ change (seen worth old)
+
 -- before the first statement the rate of every class is 1
 abbrev pub begun : State
-begun = record { rates = replicate 16 1; lines = []; calls = []; notes = [] }
+begun = record { rates = replicate classes 1; lines = []; calls = []; notes = [] }
 
 -- a statement that is answered at once
 abbrev pub noted : State → Note → State
@@ -46,6 +51,7 @@ abbrev pub rates_if : Result (Unit {0}) RatesRefusal → List ℕ → List ℕ �
 rates_if (Ok _) new old = new
 rates_if (Err _) new old = old
 
+-- rates, and what is told of them
 abbrev pub with_rates : State → List ℕ → State
 with_rates s rs =
     record {
@@ -55,6 +61,7 @@ with_rates s rs =
       notes = s.notes ++ note.Rates (judged rs) ∷ [];
     }
 
+-- one more line in hand
 abbrev pub more_line : State → Line → State
 more_line s l = record { rates = s.rates; lines = s.lines ++ l ∷ []; calls = s.calls; notes = s.notes }
 
@@ -63,14 +70,14 @@ abbrev pub lines_if : Result (List Line) RequestRefusal → List Line → List L
 lines_if (Ok new) old = new
 lines_if (Err _) old = old
 
--- a file has at most 1,024 lines
+-- the lines of a request file in the place of those in hand
 abbrev pub read_file : State → List ℕ → State
 read_file s file =
     record {
       rates = s.rates;
-      lines = lines_if (reading file 1024) s.lines;
+      lines = lines_if (reading file most_lines) s.lines;
       calls = s.calls;
-      notes = s.notes ++ note.Request (counted (reading file 1024)) ∷ [];
+      notes = s.notes ++ note.Request (counted (reading file most_lines)) ∷ [];
     }
 
 -- the lines in hand are enrolled, and then none are
@@ -83,29 +90,28 @@ enrolled s =
       notes = s.notes ++ note.Enrol ∷ [];
     }
 
--- what a journal's entry tells: its statement, and the bytes of the file that it names
-abbrev pub told : Entry → Meaning × List ℕ
-told e = (meaning e.statement, vec_items e.file)
-
 -- `worths` is the worth of a class's units by the rates in force
 module _ (worths : List ℕ → ℕ → ℕ → ℕ) where
+  -- a statement more, and the bytes of the file that it names
   abbrev pub after : State → Meaning → List ℕ → State
-  after s (said.a_method _) file = s
-  after s (said.a_book _) file = s
-  after s (said.an_opening _) file = s
-  after s (said.some_rates rs) file = with_rates s rs
-  after s (said.a_line l) file = more_line s l
-  after s (said.a_request _) file = read_file s file
-  after s said.an_enrolment file = enrolled s
-  after s (said.a_reading units) file = called s (a_reading units) note.Reading
-  after s (said.a_bill account cents) file = called s (a_bill (worths s.rates) account cents) note.Bill
-  after s (said.a_final_bill account cents) file = called s (a_final_bill (worths s.rates) account cents) note.Final
-  after s (said.a_disbursement account units) file = called s (a_disbursement account units) note.Disburse
-  after s said.a_lapse file = called s a_lapse note.Lapse
-  after s said.a_close file = called s a_close note.Close
+  after s (statement.a_method _) file = s
+  after s (statement.a_book _) file = s
+  after s (statement.an_opening _) file = s
+  after s (statement.some_rates rs) file = with_rates s rs
+  after s (statement.a_line l) file = more_line s l
+  after s (statement.a_request _) file = read_file s file
+  after s statement.an_enrolment file = enrolled s
+  after s (statement.a_reading units) file = called s (a_reading units) note.Reading
+  after s (statement.a_bill account cents) file = called s (a_bill (worths s.rates) account cents) note.Bill
+  after s (statement.a_final_bill account cents) file = called s (a_final_bill (worths s.rates) account cents) note.Final
+  after s (statement.a_disbursement account units) file = called s (a_disbursement account units) note.Disburse
+  after s statement.a_lapse file = called s a_lapse note.Lapse
+  after s statement.a_close file = called s a_close note.Close
 
+  -- the same of both as one
   abbrev pub step : State → Meaning × List ℕ → State
   step s e = after s e.0 e.1
 
+  -- and many
   abbrev pub planned : State → List (Meaning × List ℕ) → State
   planned s es = fold step s es

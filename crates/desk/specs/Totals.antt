@@ -3,8 +3,8 @@ use Rattle.std.specs.Prelude.{ℕ, List, Result}
 use Rattle.desk.specs.declared.totals.CentTotals.{CentTotals}
 use Rattle.desk.specs.declared.totals.UnitTotals.{UnitTotals}
 use Rattle.ledger.specs.declared.call.Call.{Call}
-use Rattle.ledger.specs.declared.call.Done.{Done}
-use Rattle.ledger.specs.declared.call.Refusal.{Refusal}
+use Rattle.ledger.specs.declared.answer.Done.{Done}
+use Rattle.ledger.specs.declared.refusal.Refusal.{Refusal}
 use Rattle.desk.specs.Amounts.{sum_of}
 use Rattle.desk.specs.declared.amounts.Amount.TheVariants.{Read, Used, Forfeited, Applied, Net, Paid, Utility}
 

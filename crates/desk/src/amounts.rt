@@ -1,12 +1,13 @@
-// Sums over calls and their answers.
-ghost use Rattle.std.specs.Prelude.{◌≡◌, sum_by};
-ghost use Rattle.desk.specs.Amounts.{of_bill, of_close, of_lapse, of_call, amount, sum_of};
+//! Sums over calls and their answers.
+ghost use Rattle.std.specs.Prelude.{◌≡◌};
+ghost use Rattle.desk.specs.Amounts.{of_bill, of_close, of_lapse, of_call, amount, sum_of, held_in};
 
 use accounts::book::AccountBook;
-use ledger::call::{Call, Done, Posting, Refusal, Settlement};
+use ledger::answer::{Done, Posting, Settlement};
+use ledger::call::Call;
+use ledger::refusal::Refusal;
 
-// What is summed: units read, used and forfeited, and cents applied, net, paid to the host and kept by the utility.
-// It is one value, since seven closures would each match the answers anew.
+/// What is summed: units read, used and forfeited, and cents applied, net, paid to the host and kept by the utility.
 #[derive(Clone, Copy, PartialEq, Eq, Debug)]
 pub enum Amount {
     Read,
@@ -19,7 +20,7 @@ pub enum Amount {
 }
 
 impl Amount {
-    // What a bill adds; `forfeited` are the units that a final bill forfeits.
+    /// What a bill adds; `forfeited` are the units that a final bill forfeits.
     fn of_bill(self, posting: &Posting, forfeited: u64) -> u64
         ensures { result ≡ of_bill self posting.now forfeited }
     {
@@ -32,6 +33,7 @@ impl Amount {
         }
     }
 
+    /// What a close adds.
     fn of_close(self, settlement: &Settlement) -> u64
         ensures { result ≡ of_close self settlement.now }
     {
@@ -42,6 +44,7 @@ impl Amount {
         }
     }
 
+    /// What a lapse adds, by the units that it forfeits.
     fn of_lapse(self, forfeited: u64) -> u64
         ensures { result ≡ of_lapse self forfeited }
     {
@@ -52,7 +55,7 @@ impl Amount {
         }
     }
 
-    // What a call itself adds once it is accepted: the units of a reading.
+    /// What a call itself adds once it is accepted: the units of a reading.
     fn of_call<M>(self, call: &Call<M>) -> u64
         ensures { result ≡ of_call self call.now }
     {
@@ -62,7 +65,7 @@ impl Amount {
         }
     }
 
-    // What a call with its answer adds; a declined call adds nothing.
+    /// What a call with its answer adds; a declined call adds nothing.
     pub fn of<M>(self, call: &Call<M>, answer: &Result<Done, Refusal>) -> u64
         ensures { result ≡ amount self call.now answer.now }
     {
@@ -77,15 +80,17 @@ impl Amount {
     }
 }
 
-// Calls and their answers, in order; two lists, since a run answers a list of its own.
+/// Calls and their answers, in order.
 #[derive(Drop)]
 pub struct Performed<'a, M> {
+    /// The calls.
     pub calls: &'a [Call<M>],
+    /// The answers, each at the place of its call.
     pub answers: &'a [Result<Done, Refusal>],
 }
 
 impl<M> Performed<'_, M> {
-    // What the calls come to together.
+    /// What the calls come to together.
     pub fn sum(&self, amount: Amount) -> u128
         ensures { result ≡ sum_of amount self.now.calls.now self.now.answers.now }
     {
@@ -97,9 +102,9 @@ impl<M> Performed<'_, M> {
     }
 }
 
-// The units held in all records; a book gives them by their places.
+/// The units held by all accounts.
 pub fn held<B: AccountBook>(book: &B) -> u128
-    ensures { B.sound book.now → result ≡ sum_by (λ x. x.held) (B.contents book.now).records }
+    ensures { B.sound book.now → result ≡ held_in (B.contents book.now).records }
 {
     let holders = (0..book.count()).filter_map(|place| book.get(place));
     holders.map(|holder| u128::from(holder.held)).sum()

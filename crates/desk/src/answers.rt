@@ -1,19 +1,20 @@
-// The line of an answer.
+//! The line of an answer.
 ghost use Rattle.std.specs.Prelude.{◌≡◌, IfOk, Some, string_bytes};
 ghost use Rattle.desk.specs.Answers.{posting_text, close_text, done_text, answer_text, request_text};
 
 use crate::refusal::refusal_line;
-use ledger::call::{Done, Posting, Refusal, Settlement};
+use ledger::answer::{Done, Posting, Settlement};
+use ledger::refusal::Refusal;
 use std::alloc::{AllocError, Global};
 use std::fmt;
 
-// The line of a ledger that is opened.
+/// The line of a ledger that is opened.
 pub const OPENED: &str = "open: opened";
 
-// The line of rates that are set.
+/// The line of rates that are set.
 pub const RATES_SET: &str = "rates: set";
 
-// The amounts of a bill.
+/// The amounts of a bill.
 #[derive(Clone, Copy)]
 struct BillAmounts(Posting);
 
@@ -31,6 +32,7 @@ impl fmt::Display for BillAmounts {
     }
 }
 
+/// The line of a period that is closed.
 fn close_line(settlement: Settlement, heap: Global) -> Result<String, AllocError>
     ensures { IfOk result (λ s. string_bytes s ≡ close_text settlement) }
 {
@@ -43,7 +45,7 @@ fn close_line(settlement: Settlement, heap: Global) -> Result<String, AllocError
     format!(in heap; "close: applied {applied} fees {fees} utility {utility} payment {payment}")
 }
 
-// The line of a call that the ledger performs.
+/// The line of a call that the ledger performs.
 fn done_line(done: Done, heap: Global) -> Result<String, AllocError>
     ensures { IfOk result (λ s. string_bytes s ≡ done_text done) }
 {
@@ -60,7 +62,7 @@ fn done_line(done: Done, heap: Global) -> Result<String, AllocError>
     }
 }
 
-// The line of a call, by the word of its statement where it is declined.
+/// The line of a call; `word` is its statement's first, under which it is told where the ledger declines it.
 pub fn answer_line(
     word: &str,
     answer: Result<Done, Refusal>,
@@ -74,7 +76,7 @@ pub fn answer_line(
     }
 }
 
-// The line of a request file that is read.
+/// The line of a request file that is read, by the number of its lines.
 pub fn request_line(lines: usize, heap: Global) -> Result<String, AllocError>
     ensures { IfOk result (λ s. string_bytes s ≡ request_text lines) }
 {

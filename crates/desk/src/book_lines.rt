@@ -1,4 +1,4 @@
-// The lines of the ledger and of its accounts, after the last statement.
+//! The lines of the ledger and of its accounts, after the last statement.
 ghost use Rattle.std.specs.Prelude.{◌≡◌, IfOk, Some, string_bytes};
 ghost use Rattle.desk.specs.BookLines.{ledger_text, terms_text, account_text};
 
@@ -7,8 +7,8 @@ use ledger::phase::Phase;
 use std::alloc::{AllocError, Global};
 use std::fmt;
 
-// The ledger's phase, its closed periods and its bank, and the open period's applied credits and fees.
-// It takes these and no Ledger, which would ask more of callers.
+/// The line of a ledger: its phase, its closed periods and the units in its bank, and the applied credits and fees of
+/// the open period, in cents.
 pub fn ledger_line(phase: Phase, closed: u32, bank: u64, heap: Global) -> Result<String, AllocError>
     ensures { IfOk result (λ s. string_bytes s ≡ ledger_text phase closed bank) }
 {
@@ -19,7 +19,7 @@ pub fn ledger_line(phase: Phase, closed: u32, bank: u64, heap: Global) -> Result
     format!(in heap; "ledger: {when}, closed {closed}, bank {bank}, applied {applied}, fees {fees}")
 }
 
-// An account's terms: its percentage, savings, class, size and kind.
+/// An account's terms: its percentage, savings, class, size and kind.
 #[derive(Clone, Copy)]
 struct Terms(Record);
 
@@ -42,6 +42,7 @@ impl fmt::Display for Terms {
     }
 }
 
+/// The line of an account: its terms, its state, the units that it holds, and the last period in which it was billed.
 pub fn account_line(record: Record, heap: Global) -> Result<String, AllocError>
     ensures { IfOk result (λ s. string_bytes s ≡ account_text «record») }
 {

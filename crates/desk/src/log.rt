@@ -1,18 +1,18 @@
-// The line that is printed for a statement that answers.
+//! The line that is printed for a statement that answers.
 ghost use Rattle.std.specs.Prelude.{◌≡◌, IfOk, string_bytes};
 ghost use Rattle.std.specs.Option.{option_map};
 ghost use Rattle.desk.specs.Logs.{word_of, calls_ledger, rates_text, file_text, call_text, note_text};
 
-use desk::answers::{RATES_SET, answer_line, request_line};
-use desk::refusal::refusal_line;
+use crate::answers::{RATES_SET, answer_line, request_line};
+use crate::note::Note;
+use crate::refusal::refusal_line;
 use crediting::rates::RatesRefusal;
-use ledger::call::{Done, Refusal};
-use desk::note::Note;
+use ledger::answer::Done;
+use ledger::refusal::Refusal;
 use requests::fault::RequestRefusal;
 use std::alloc::{AllocError, Global};
 
-// The word of a statement that answers.
-// It is a text and no Display, since it is a part of a line that another function writes, which takes any word.
+/// The first word of a statement that answers.
 pub fn word(note: Note) -> &'static str
     ensures { result.now ≡ word_of note }
 {
@@ -29,13 +29,14 @@ pub fn word(note: Note) -> &'static str
     }
 }
 
-// Whether a statement is a call of the ledger; rates and request files are answered at once.
+/// Whether a statement is a call of the ledger; rates and request files are answered at once.
 pub fn is_call(note: Note) -> bool
     ensures { result ≡ calls_ledger note }
 {
     !matches!(note, Note::Rates(_) | Note::Request(_))
 }
 
+/// The line of rates: set, or why they are refused.
 fn rates_line(
     word: &str,
     judged: Result<(), RatesRefusal>,
@@ -49,6 +50,7 @@ fn rates_line(
     }
 }
 
+/// The line of a request file: how many lines it has, or why it is refused.
 fn file_line(
     word: &str,
     read: Result<usize, RequestRefusal>,
@@ -62,8 +64,7 @@ fn file_line(
     }
 }
 
-// The line of a call; without an answer it has none.
-// Each call has one; but that is no premise here, as it would ask of callers what they need not show.
+/// The line of a call; empty where it has no answer.
 fn call_line(
     word: &str,
     answer: Option<Result<Done, Refusal>>,
@@ -77,7 +78,7 @@ fn call_line(
     }
 }
 
-// The line of a statement: of one that is a call, that of the ledger's answer.
+/// The line of a statement that answers; of one that is a call, by the ledger's answer.
 pub fn note_line(
     note: Note,
     answer: Option<Result<Done, Refusal>>,

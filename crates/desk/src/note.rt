@@ -1,4 +1,4 @@
-// What a statement that answers tells, in order: at once, or as the answer of its call.
+//! What a statement answers: at once, or as its call.
 ghost use Rattle.std.specs.Prelude.{◌≡◌};
 ghost use Rattle.desk.specs.Deeds.{note_of};
 
@@ -6,10 +6,12 @@ use crediting::rates::RatesRefusal;
 use ledger::call::Call;
 use requests::fault::RequestRefusal;
 
+/// A statement that answers. Rates and request files are answered at once, the others by the ledger.
 #[derive(Clone, Copy, PartialEq, Eq, Debug)]
 pub enum Note {
+    /// Rates are set, or why they are refused.
     Rates(Result<(), RatesRefusal>),
-    // how many lines the file has
+    /// How many lines a request file has, or why it is refused.
     Request(Result<usize, RequestRefusal>),
     Enrol,
     Reading,

@@ -1,19 +1,154 @@
-// The calls of a journal.
-use super::note::Note;
-use accounts::record::Line;
-use crediting::volumetric::Volumetric;
-use ledger::call::Call;
+//! The calls of a journal, which grow by one statement after another.
+ghost use Rattle.std.specs.Prelude.{◌≡◌, map, IfOk, OnOk};
+ghost use Rattle.journal.specs.JournalLines.{content_of};
+ghost use Rattle.desk.specs.Deeds.{deed, note_of};
+ghost use Rattle.desk.specs.Plans.{seen, begun, noted, called, with_rates, more_line, read_file, enrolled, step, planned, Becomes};
 
-// What the statements so far come to.
-// Clauses read it by the definition `seen`: a model's value cannot hold a method's worth.
+use crate::note::Note;
+use crate::rated::Rated;
+use accounts::record::Line;
+use base::limits::MOST_LINES;
+use crediting::method::CreditMethod;
+use crediting::volumetric::Volumetric;
+use journal::line::JournalLine;
+use journal::statement::Statement;
+use ledger::call::Call;
+use requests::reader::read;
+use std::alloc::{AllocError, Global};
+use std::mem;
+
+/// What the statements so far come to.
 #[derive(Drop)]
 pub struct Plan<M> {
-    // the rates of the bills that follow
+    /// The rates of the bills that follow.
     pub rates: Volumetric,
-    // the lines in hand
+    /// The lines in hand.
     pub lines: Vec<Line>,
-    // apart from the notes, since the run takes the calls alone and answers them alone
+    /// The calls of the ledger, in order.
     pub calls: Vec<Call<M>>,
-    // in the order of the statements that answer
+    /// The notes of the statements that answer, in order.
     pub notes: Vec<Note>,
+}
+
+impl<M: Rated + Drop> Plan<M> {
+    /// No call, no line in hand, rate 1 for every class.
+    pub fn new(heap: Global) -> Plan<M>
+        ensures { seen M.CreditMethod.worth result ≡ begun }
+    {
+        Plan {
+            rates: Volumetric::new(),
+            lines: Vec::new(heap),
+            calls: Vec::new(heap),
+            notes: Vec::new(heap),
+        }
+    }
+
+    /// A statement that is answered at once.
+    fn note(&mut self, note: Note) -> Result<(), AllocError>
+        ensures { OnOk result (Becomes M.CreditMethod.worth self.old self.new (λ s. noted s note)) }
+    {
+        self.notes.push(note)?;
+        Ok(())
+    }
+
+    /// A statement that is a call.
+    fn call(&mut self, call: Call<M>) -> Result<(), AllocError>
+        ensures {
+            OnOk result (Becomes M.CreditMethod.worth self.old self.new
+                (λ s. called s (deed M.CreditMethod.worth call) (note_of call)))
+        }
+    {
+        self.notes.push(Note::from(&call))?;
+        self.calls.push(call)?;
+        Ok(())
+    }
+
+    /// The rates of the bills that follow; refused, those in force stay.
+    fn set_rates(&mut self, rates: &[u32]) -> Result<(), AllocError>
+        ensures { OnOk result (Becomes M.CreditMethod.worth self.old self.new (λ s. with_rates s rates.now)) }
+    {
+        let judged = self.rates.set_rates(rates);
+        self.note(Note::Rates(judged))
+    }
+
+    /// One more line in hand.
+    fn add_line(&mut self, line: Line) -> Result<(), AllocError>
+        ensures { OnOk result (Becomes M.CreditMethod.worth self.old self.new (λ s. more_line s line)) }
+    {
+        self.lines.push(line)?;
+        Ok(())
+    }
+
+    /// The lines of a request file in the place of those in hand; refused, those in hand stay.
+    fn read_request(&mut self, file: &[u8], heap: Global) -> Result<(), AllocError>
+        ensures { OnOk result (Becomes M.CreditMethod.worth self.old self.new (λ s. read_file s file.now)) }
+    {
+        let mut table = [Line::default(); MOST_LINES];
+        let read = read(file, &mut table);
+        if let Ok(lines) = read {
+            self.lines = Vec::from_slice(heap, &table[..lines])?;
+        }
+        self.note(Note::Request(read))
+    }
+
+    /// Enrols the lines in hand, and then none are.
+    fn enrol(&mut self, heap: Global) -> Result<(), AllocError>
+        ensures { OnOk result (Becomes M.CreditMethod.worth self.old self.new (λ s. enrolled s)) }
+    {
+        let lines = mem::replace(&mut self.lines, Vec::new(heap));
+        self.call(Call::Enrol(lines))
+    }
+
+    /// One statement more. A statement of the journal's head adds nothing.
+    pub fn add(&mut self, stated: &JournalLine, heap: Global) -> Result<(), AllocError>
+        ensures {
+            OnOk result (Becomes M.CreditMethod.worth self.old self.new
+                (λ s. step M.Rated.worths s (content_of stated.now)))
+        }
+    {
+        match stated.statement {
+            Statement::Method(_) | Statement::Book(_) | Statement::Open(_) => Ok(()),
+            Statement::Rates(ref rates) => self.set_rates(rates.as_slice()),
+            Statement::Line(line) => self.add_line(line),
+            Statement::Request(_) => self.read_request(stated.file.as_slice(), heap),
+            Statement::Enrol => self.enrol(heap),
+            Statement::Reading(units) => self.call(Call::Reading(units)),
+            Statement::Bill { account, cents } => {
+                let method = M::rated(&self.rates);
+                self.call(Call::Bill {
+                    method,
+                    account,
+                    cents,
+                })
+            }
+            Statement::Final { account, cents } => {
+                let method = M::rated(&self.rates);
+                self.call(Call::FinalBill {
+                    method,
+                    account,
+                    cents,
+                })
+            }
+            Statement::Disburse { account, units } => self.call(Call::Disburse { account, units }),
+            Statement::Lapse => self.call(Call::Lapse),
+            Statement::Close => self.call(Call::Close),
+        }
+    }
+}
+
+/// The calls and notes of a whole journal; an error only where memory fails.
+pub fn plan<M: Rated + Drop>(
+    statements: &[JournalLine],
+    heap: Global,
+) -> Result<Plan<M>, AllocError>
+    ensures {
+        IfOk result (λ p. seen M.CreditMethod.worth p
+            ≡ planned M.Rated.worths begun (map content_of statements.now))
+    }
+{
+    let mut plan = Plan::new(heap);
+    for stated in statements {
+        plan.add(stated, heap)?;
+    }
+    Ok(plan)
 }

@@ -1,4 +1,4 @@
-// A crediting method made from the rates in force.
+//! A crediting method made from the rates in force.
 ghost use Rattle.std.specs.Prelude.{◌≡◌, ℕ, List};
 ghost use Rattle.crediting.specs.Worths.{cents, by_rates};
 
@@ -6,15 +6,17 @@ use crediting::method::CreditMethod;
 use crediting::value_stack::ValueStack;
 use crediting::volumetric::Volumetric;
 
+/// A crediting method that rates make.
 pub trait Rated: CreditMethod {
     // the worth of a class's units by sixteen rates
     ghost worths: { List ℕ → ℕ → ℕ → ℕ };
 
+    /// The method at the rates in force.
     fn rated(rates: &Volumetric) -> Self
         ensures { Self.CreditMethod.worth result ≡ worths rates.now.rates };
 }
 
-// A cent is a cent at any rates.
+// a cent is a cent at any rates
 impl Rated for ValueStack {
     ghost worths = { λ _. cents };
 

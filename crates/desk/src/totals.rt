@@ -1,10 +1,16 @@
-// What the calls of a journal come to together.
-ghost use Rattle.std.specs.Prelude.{Some};
+//! What the calls of a journal come to together.
+ghost use Rattle.std.specs.Prelude.{◌≡◌, Some};
+ghost use Rattle.ledger.specs.Phases.{fees_in};
+ghost use Rattle.desk.specs.Amounts.{held_in};
 ghost use Rattle.desk.specs.BookLines.{units_text, cents_text};
+ghost use Rattle.desk.specs.Totals.{units_of, cents_of};
 
+use crate::amounts::{Amount, Performed, held};
+use accounts::book::AccountBook;
+use ledger::ledger::Ledger;
 use std::fmt;
 
-// Units: those read are used, forfeited, in the host's bank or held by accounts.
+/// Units: those read are used, forfeited, in the host's bank or held by accounts.
 #[derive(Clone, Copy, PartialEq, Eq, Debug)]
 pub struct UnitTotals {
     pub read: u128,
@@ -32,7 +38,7 @@ impl fmt::Display for UnitTotals {
     }
 }
 
-// Cents: the applied credits are net credits, what the host is paid, utility fees, or fees of the open period.
+/// Cents: the applied credits are net credits, what the host is paid, utility fees, or fees of the open period.
 #[derive(Clone, Copy, PartialEq, Eq, Debug)]
 pub struct CentTotals {
     pub applied: u128,
@@ -57,5 +63,41 @@ impl fmt::Display for CentTotals {
             f,
             "cents: applied {applied} net {net} paid {paid} utility {utility} open {open}"
         )
+    }
+}
+
+/// Units read, used and forfeited by the calls, and where the others are.
+pub fn unit_totals<M, B: AccountBook>(
+    ledger: &Ledger,
+    book: &B,
+    performed: &Performed<M>,
+) -> UnitTotals
+    ensures {
+        B.sound book.now
+        → result ≡ units_of ledger.now.bank (held_in (B.contents book.now).records)
+            performed.now.calls.now performed.now.answers.now
+    }
+{
+    UnitTotals {
+        read: performed.sum(Amount::Read),
+        used: performed.sum(Amount::Used),
+        forfeited: performed.sum(Amount::Forfeited),
+        bank: u128::from(ledger.bank()),
+        held: held(book),
+    }
+}
+
+/// Cents applied by the calls, and whose they are.
+pub fn cent_totals<M>(ledger: &Ledger, performed: &Performed<M>) -> CentTotals
+    ensures {
+        result ≡ cents_of (fees_in ledger.now.phase) performed.now.calls.now performed.now.answers.now
+    }
+{
+    CentTotals {
+        applied: performed.sum(Amount::Applied),
+        net: performed.sum(Amount::Net),
+        paid: performed.sum(Amount::Paid),
+        utility: performed.sum(Amount::Utility),
+        open: u128::from(ledger.open_fees()),
     }
 }

@@ -1,6 +1,6 @@
 -- What the host is paid for a period, and why.
 use Rattle.std.specs.Prelude.{ℕ, ◌-◌, List, ◌++◌, length, codes}
-use Rattle.ledger.specs.declared.call.Settlement.{Settlement}
+use Rattle.ledger.specs.declared.answer.Settlement.{Settlement}
 use Rattle.base.specs.Amounts.{dollars}
 use Rattle.report.specs.Tables.{right}
 use Rattle.report.specs.declared.payment.Item.{Item}
@@ -17,6 +17,7 @@ cents_of item.Fees applied s = s.fees
 cents_of item.UtilityFee applied s = s.utility
 cents_of item.Payment applied s = s.payment
 
+-- the label of an item
 abbrev pub label_of : Item → List ℕ
 label_of item.Applied = codes "Credit applied to satellites"
 label_of item.ToAnchors = codes "  less that of excluded anchors, without fee"
@@ -26,6 +27,10 @@ label_of item.Fees = codes "Subscription fees"
 label_of item.UtilityFee = codes "  less utility fee, 1.5 percent of members' credit"
 label_of item.Payment = codes "Paid to the host"
 
--- the label at the left and dollars at the right of 66 columns
+-- how wide a line is, in columns
+abbrev pub line_width : ℕ
+line_width = 66
+
+-- the label at the left and dollars at the right
 abbrev pub payment_text : Item → ℕ → Settlement → List ℕ
-payment_text i applied s = label_of i ++ right (66 - length (label_of i)) (dollars (cents_of i applied s))
+payment_text i applied s = label_of i ++ right (line_width - length (label_of i)) (dollars (cents_of i applied s))

@@ -1,7 +1,7 @@
--- What a satellite's row in the summary of a period tells.
+-- A satellite's row in the summary of a period.
 use Rattle.std.specs.Prelude.{ℕ, ◌+◌, ◌-◌}
 use Rattle.accounts.specs.declared.record.Record.{Record}
-use Rattle.ledger.specs.declared.call.Posting.{Posting}
+use Rattle.ledger.specs.declared.answer.Posting.{Posting}
 use Rattle.report.specs.declared.row.Column.{Column}
 use Rattle.report.specs.declared.row.Column.TheVariants as column
 use Rattle.report.specs.declared.row.Row.{Row}
@@ -49,9 +49,11 @@ finally_billed r p forfeited =
 abbrev pub blank : Row
 blank = record { account = 0; percentage = 0; carried = 0; share = 0; applied = 0; left = 0; forfeited = 0 }
 
+-- carried over and share together
 abbrev pub available : Row → ℕ
 available r = r.carried + r.share
 
+-- the number of a column in a row
 abbrev pub cell : Column → Row → ℕ
 cell column.Percentage r = r.percentage
 cell column.Carried r = r.carried

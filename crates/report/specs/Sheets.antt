@@ -1,8 +1,8 @@
 -- The rows of a period.
 use Rattle.std.specs.Prelude.{ℕ, cond, List, length, map, zip, get_or, ◌==◌, nat_lt, slice_index_or, slice_set}
 use Rattle.accounts.specs.declared.record.Record.{Record}
-use Rattle.ledger.specs.declared.call.Done.{Done}
-use Rattle.ledger.specs.declared.call.Done.TheVariants as done
+use Rattle.ledger.specs.declared.answer.Done.{Done}
+use Rattle.ledger.specs.declared.answer.Done.TheVariants as done
 use Rattle.report.specs.Rows.{opened, billed, finally_billed, blank}
 use Rattle.report.specs.declared.row.Row.{Row}
 

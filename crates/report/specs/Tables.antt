@@ -1,5 +1,5 @@
 -- The lines of a summary.
-use Rattle.std.specs.Prelude.{ℕ, ◌-◌, List, [], ◌++◌, length, replicate, codes, decimal, sum_by}
+use Rattle.std.specs.Prelude.{◌≡◌, ℕ, ◌-◌, List, [], ◌++◌, length, replicate, codes, decimal, sum_by, IfSome, Option}
 use Rattle.base.specs.Amounts.{dollars, percent}
 use Rattle.report.specs.Rows.{available, cell}
 use Rattle.report.specs.declared.row.Column.TheVariants as column
@@ -13,6 +13,7 @@ use Rattle.report.specs.declared.table.Summary.TheVariants as summary
 abbrev pub right : ℕ → List ℕ → List ℕ
 right width text = replicate (width - length text) 32 ++ text
 
+-- a satellite's numbers
 abbrev pub row_figures : Row → Figures
 row_figures r =
     record {
@@ -23,6 +24,7 @@ row_figures r =
       left = r.left;
     }
 
+-- those of all satellites together
 abbrev pub sum_figures : List Row → Figures
 sum_figures rs =
     record {
@@ -52,15 +54,23 @@ table_text label percentage f =
     ++ right 15 (dollars f.applied))
     ++ right 15 (decimal f.left)
 
+-- a text is such a line, where what it is of and its percentage are printed as some text
+abbrev pub IsTableLine : Option (List ℕ) → Option (List ℕ) → Figures → List ℕ → Type 0
+IsTableLine label percentage f text = IfSome label (λ l. IfSome percentage (λ p. text ≡ table_text l p f))
+
+-- a satellite's line
 abbrev pub row_text : Row → List ℕ
 row_text r = table_text (decimal r.account) (percent r.percentage) (row_figures r)
 
+-- what a line is of that is no single satellite's
 abbrev pub summary_label : Summary → List ℕ
 summary_label summary.Satellites = codes "Satellites"
 summary_label summary.HostBank = codes "Host bank"
 
+-- the line of all satellites together
 abbrev pub satellites_text : List Row → List ℕ
 satellites_text rs = table_text (summary_label summary.Satellites) (percent (sum_by (cell column.Percentage) rs)) (sum_figures rs)
 
+-- the line of the host bank
 abbrev pub bank_text : Bank → List ℕ
 bank_text b = table_text (summary_label summary.HostBank) [] (bank_figures b)

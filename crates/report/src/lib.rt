@@ -1,4 +1,4 @@
-// The host's monthly report: the summary of a closed period, and what the host is paid and why.
+//! The host's monthly report: the summary of a closed period, and what the host is paid and why.
 #![tactic(auto)]
 
 mod cells;

@@ -1,25 +1,34 @@
-// What the host is paid for a period, and why.
+//! What the host is paid for a period, and why.
 ghost use Rattle.std.specs.Prelude.{◌≡◌, IfOk, Some, string_bytes};
 ghost use Rattle.report.specs.Payments.{cents_of, label_of, payment_text};
 
-use super::cells::push_right;
+use crate::cells::push_right;
 use base::amount::Dollars;
-use ledger::call::Settlement;
+use ledger::answer::Settlement;
 use std::alloc::{AllocError, Global};
 use std::fmt;
 
-// The lines, from the credit that all satellites had down to what the host is paid.
+/// A line of the payment, of which there are seven: from the credit that all satellites had down to what the host is
+/// paid. It is printed as its label.
 #[derive(Clone, Copy, PartialEq, Eq, Debug)]
 pub enum Item {
+    /// The credit applied to all satellites.
     Applied,
+    /// The part of it that anchors had, which pay no fee.
     ToAnchors,
+    /// The part of it that members had.
     ToMembers,
+    /// The part of that which the members keep.
     NetCredit,
+    /// The subscription fees, which are the rest of it.
     Fees,
+    /// The part of the fees that the utility keeps.
     UtilityFee,
+    /// The rest of the fees, which the host is paid.
     Payment,
 }
 
+/// The lines in their order.
 pub const ITEMS: [Item; 7] = [
     Item::Applied,
     Item::ToAnchors,
@@ -30,7 +39,9 @@ pub const ITEMS: [Item; 7] = [
     Item::Payment,
 ];
 
-// The label of an item.
+/// How wide a line of the payment is, in columns.
+const WIDTH: usize = 66;
+
 impl fmt::Display for Item {
     ghost output = { λ item. Some (label_of item) };
 
@@ -48,7 +59,7 @@ impl fmt::Display for Item {
 }
 
 impl Item {
-    // Its cents, by the credit applied to all satellites and the settlement of the period.
+    /// The item's cents, by the credit applied to all satellites, in cents, and the settlement of the period.
     pub fn cents(self, applied: u128, settlement: &Settlement) -> u128
         ensures { result ≡ cents_of self applied settlement.now }
     {
@@ -65,7 +76,7 @@ impl Item {
         }
     }
 
-    // The line of an item, with its dollars at the right.
+    /// The item's line: its label at the left, its dollars at the right.
     pub fn line(
         self,
         applied: u128,
@@ -75,7 +86,7 @@ impl Item {
         ensures { IfOk result (λ s. string_bytes s ≡ payment_text self applied settlement.now) }
     {
         let mut line = self.to_string(heap)?;
-        let width = 66usize.saturating_sub(line.len());
+        let width = WIDTH.saturating_sub(line.len());
         let amount = Dollars::from(self.cents(applied, settlement));
         push_right(&mut line, &amount, width, heap)?;
         Ok(line)

@@ -1,33 +1,36 @@
-// A satellite's row in the summary of a period.
-ghost use Rattle.std.specs.Prelude.{◌≡◌, ◌≤◌, sum_by};
+//! A satellite's row in the summary of a period.
+ghost use Rattle.std.specs.Prelude.{◌≡◌, ◌*◌, ◌≤◌, sum_by};
 ghost use Rattle.report.specs.Rows.{opened, billed, finally_billed, available, cell};
 
 use accounts::record::Record;
-use ledger::call::Posting;
+use ledger::answer::Posting;
 
+/// What a period was for a satellite.
 #[derive(Clone, Copy, PartialEq, Eq, Debug)]
 pub struct Row {
+    /// The satellite's account.
     pub account: u64,
-    // in thousandths of a percent
+    /// The satellite's part of the generation, in thousandths of a percent.
     pub percentage: u32,
-    // units held before the reading
+    /// Units held before the reading.
     pub carried: u64,
-    // units of the reading
+    /// Units of the reading.
     pub share: u64,
-    // cents
+    /// The applied credit, in cents.
     pub applied: u64,
-    // units held at the close
+    /// Units held at the close.
     pub left: u64,
-    // units that a final bill forfeits
+    /// Units that a final bill forfeits.
     pub forfeited: u64,
 }
 
-// A column of numbers; with a closure in its place a sum would have to promise what the closure answers.
+/// A column of numbers in the rows of a period.
 #[derive(Clone, Copy, PartialEq, Eq, Debug)]
 pub enum Column {
     Percentage,
     Carried,
     Share,
+    /// Carried over and share together.
     Available,
     Applied,
     Left,
@@ -35,7 +38,7 @@ pub enum Column {
 }
 
 impl Row {
-    // The row of an account that is not billed yet, by its record before and after the reading.
+    /// The row of an account that is not billed yet, by its record before and after the reading.
     pub fn opened(before: &Record, after: &Record) -> Row
         ensures { result ≡ opened before.now after.now }
     {
@@ -50,7 +53,7 @@ impl Row {
         }
     }
 
-    // The row once its bill has come.
+    /// The row once the account's bill is posted.
     pub fn billed(self, posting: &Posting) -> Row
         ensures { result ≡ billed self posting.now }
     {
@@ -61,7 +64,7 @@ impl Row {
         }
     }
 
-    // The row once its final bill has come: nothing is left.
+    /// The row once the account's final bill is posted: nothing is left, and what the bill did not use is forfeited.
     pub fn finally_billed(self, posting: &Posting, forfeited: u64) -> Row
         ensures { result ≡ finally_billed self posting.now forfeited }
     {
@@ -73,19 +76,20 @@ impl Row {
         }
     }
 
-    // Carried over and share together.
+    /// Carried over and share together, in units.
     pub fn available(&self) -> u128
         ensures value { result ≡ available self.now }
-        ensures bound { result ≤ 36893488147419103230 }
+        ensures bound { result ≤ 2 * u64.MAX }
     {
         u128::from(self.carried) + u128::from(self.share)
     }
 }
 
 impl Column {
+    /// The number of the column in a row.
     pub fn of(self, row: &Row) -> u128
         ensures value { result ≡ cell self row.now }
-        ensures bound { result ≤ 36893488147419103230 }
+        ensures bound { result ≤ 2 * u64.MAX }
     {
         match self {
             Column::Percentage => u128::from(row.percentage),
@@ -98,7 +102,7 @@ impl Column {
         }
     }
 
-    // The sum of the column over all rows.
+    /// The sum of the column over all rows.
     pub fn total(self, rows: &[Row]) -> u128
         ensures { result ≡ sum_by (cell self) rows.now }
     {

@@ -1,13 +1,13 @@
-// The rows of a period: made when it is read, and changed as its bills come.
+//! The rows of a period: made when it is read, and changed as its bills come.
 ghost use Rattle.std.specs.Prelude.{◌≡◌, IfOk};
 ghost use Rattle.report.specs.Sheets.{opened_rows, after_call, noted};
 
-use super::row::Row;
+use crate::row::Row;
 use accounts::record::Record;
-use ledger::call::Done;
+use ledger::answer::Done;
 use std::alloc::{AllocError, Global};
 
-// The rows of a reading, by the records of the book before it and after it.
+/// The rows of a reading, by the records of the book before it and after it, in their order.
 pub fn opened_rows(
     before: &[Record],
     after: &[Record],
@@ -22,7 +22,7 @@ pub fn opened_rows(
         .collect(heap)
 }
 
-// A row once a call on its account is performed; only bills change it.
+/// A row once a call on its account is performed; only bills change it.
 fn after_call(row: Row, done: &Done) -> Row
     ensures { result ≡ after_call row done.now }
 {
@@ -33,7 +33,8 @@ fn after_call(row: Row, done: &Done) -> Row
     }
 }
 
-// Notes what a performed call on an account did, in the row at a place; the row of another account stays.
+/// Notes what a performed call on an account did in the row at a place, counted from 0. A row of another account is as it
+/// was, and so are all where the place is past the last.
 pub fn note(rows: &mut [Row], place: usize, account: u64, done: &Done)
     ensures { rows.new ≡ noted rows.old place account done.now }
 {

@@ -1,37 +1,43 @@
-// The lines of a period's summary: a row for each satellite, then the satellites together, the host's bank, and both.
-ghost use Rattle.std.specs.Prelude.{◌≡◌, IfOk, IfSome, Some, string_bytes};
-ghost use Rattle.report.specs.Tables.{summary_label, row_figures, sum_figures, bank_figures, table_text, row_text, satellites_text, bank_text};
+//! The lines of a period's summary: a row for each satellite, then the satellites together, and the host's bank.
+ghost use Rattle.std.specs.Prelude.{◌≡◌, IfOk, Some, string_bytes};
+ghost use Rattle.report.specs.Tables.{summary_label, row_figures, sum_figures, bank_figures, row_text, satellites_text, bank_text, IsTableLine};
 
-use super::cells::push_right;
-use super::row::{Column, Row};
+use crate::cells::push_right;
+use crate::row::{Column, Row};
 use base::amount::{Dollars, Percent};
 use std::alloc::{AllocError, Global};
 use std::fmt;
 use std::fmt::Display;
 
-// The heads of the columns.
+/// The heads of the columns.
 pub const HEADS: &str =
     "    Account   Percent   Carried over          Share      Available   Applied in $           Left";
 
-// The numbers of a line behind its percentage.
+/// The numbers of a line behind its percentage.
 #[derive(Clone, Copy, PartialEq, Eq, Debug)]
 pub struct Figures {
+    /// Units held before the reading.
     pub carried: u128,
+    /// Units of the reading.
     pub share: u128,
+    /// Carried over and share together.
     pub available: u128,
-    // cents
+    /// The applied credit, in cents.
     pub applied: u128,
+    /// Units held at the close.
     pub left: u128,
 }
 
-// The host's bank before and after a reading.
+/// The units in the host bank before and after a reading.
 #[derive(Clone, Copy, Default, PartialEq, Eq, Debug)]
 pub struct Bank {
+    /// Units before the reading.
     pub before: u64,
+    /// Units after it.
     pub after: u64,
 }
 
-// A line that is no single satellite's.
+/// A line that is no single satellite's.
 #[derive(Clone, Copy)]
 enum Summary {
     Satellites,
@@ -77,7 +83,7 @@ impl From<&[Row]> for Figures {
     }
 }
 
-// The reading's rest is the bank's share; no bill is paid from the bank.
+// the reading's rest is the bank's share, and no bill is paid from the bank
 impl From<Bank> for Figures {
     ghost from_gives = { λ bank figures. figures ≡ bank_figures bank };
 
@@ -92,6 +98,7 @@ impl From<Bank> for Figures {
     }
 }
 
+/// A line of the summary: what it is of, its percentage, and its numbers, each in a column of its own.
 #[tactic(auto, unfolding(crate::specs::Tables::table_text))]
 fn table_line<L: Display, P: Display>(
     label: &L,
@@ -99,7 +106,9 @@ fn table_line<L: Display, P: Display>(
     figures: Figures,
     heap: Global,
 ) -> Result<String, AllocError>
-    ensures { IfOk result (λ s. IfSome (L.output label.now) (λ l. IfSome (P.output percent.now) (λ p. string_bytes s ≡ table_text l p figures))) }
+    ensures {
+        IfOk result (λ s. IsTableLine (L.output label.now) (P.output percent.now) figures (string_bytes s))
+    }
 {
     let mut line = String::new(heap);
     push_right(&mut line, label, 11, heap)?;
@@ -112,7 +121,7 @@ fn table_line<L: Display, P: Display>(
     Ok(line)
 }
 
-// A satellite's line. It is no `Display` of the row, since lines that are of no row are made likewise.
+/// A satellite's line.
 pub fn row_line(row: &Row, heap: Global) -> Result<String, AllocError>
     ensures { IfOk result (λ s. string_bytes s ≡ row_text row.now) }
 {
@@ -120,7 +129,7 @@ pub fn row_line(row: &Row, heap: Global) -> Result<String, AllocError>
     table_line(&row.account, &percent, Figures::from(row), heap)
 }
 
-// All satellites together.
+/// The line of all satellites together.
 pub fn satellites_line(rows: &[Row], heap: Global) -> Result<String, AllocError>
     ensures { IfOk result (λ s. string_bytes s ≡ satellites_text rows.now) }
 {
@@ -128,6 +137,7 @@ pub fn satellites_line(rows: &[Row], heap: Global) -> Result<String, AllocError>
     table_line(&Summary::Satellites, &percent, Figures::from(rows), heap)
 }
 
+/// The line of the host bank, which has no percentage of its own.
 pub fn bank_line(bank: Bank, heap: Global) -> Result<String, AllocError>
     ensures { IfOk result (λ s. string_bytes s ≡ bank_text bank) }
 {

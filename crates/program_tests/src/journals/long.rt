@@ -1,8 +1,7 @@
-// A journal of over a megabyte is read whole, and every bill of it becomes a call.
+//! A journal of over a megabyte is read whole, and every bill of it becomes a call.
 use crediting::value_stack::ValueStack;
+use desk::plan::{Plan, plan};
 use journal::text::read_journal;
-use desk::plan::plan;
-use desk::plan::Plan;
 use std::test::Fail;
 
 const BILLS: usize = 60_000;
@@ -17,8 +16,8 @@ fn sixty_thousand_bills(rt: HostRuntime) -> Result<(), Fail> {
     assert!(rt; text.len() > 1_000_000);
     let journal = read_journal(text.as_slice(), heap)?;
     assert_eq!(rt; journal.lines, BILLS + 3);
-    assert_eq!(rt; journal.entries.len(), BILLS + 3);
-    let plan: Plan<ValueStack> = plan(journal.entries.as_slice(), heap)?;
+    assert_eq!(rt; journal.statements.len(), BILLS + 3);
+    let plan: Plan<ValueStack> = plan(journal.statements.as_slice(), heap)?;
     assert_eq!(rt; plan.calls.len(), BILLS);
     assert_eq!(rt; plan.notes.len(), BILLS);
     Ok(())

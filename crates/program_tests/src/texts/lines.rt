@@ -1,4 +1,4 @@
-// Lines of a journal: what they say, written out again, and what each mistake lacks.
+//! Lines of a journal: what they say, written out again, and what each mistake lacks.
 use accounts::record::{Kind, Size};
 use journal::parse::parse;
 use journal::statement::{Expected, ParseError, Statement};
@@ -26,8 +26,8 @@ fn says_nothing(rt: &impl Abort, heap: Global, line: &str) -> Result<(), Fail> {
 
 fn lacks(rt: &impl Abort, heap: Global, line: &[u8], what: Expected) -> Result<(), Fail> {
     match parse(line, heap) {
-        Err(ParseError::Expected(told)) => {
-            assert_eq!(rt; told, what);
+        Err(ParseError::Expected(expected)) => {
+            assert_eq!(rt; expected, what);
             Ok(())
         },
         Err(ParseError::NoMemory) => Err(Fail::new("no memory")),

@@ -1,12 +1,13 @@
-// What is printed of a journal.
-use super::progress::Progress;
+//! What is printed of a journal.
+use crate::progress::Progress;
 use accounts::book::AccountBook;
 use accounts::project::Project;
 use crediting::method::CreditMethod;
 use desk::plan::Plan;
 
-// Posts the calls of a plan in an empty book, by any method, and prints what came of them.
-pub trait Paper {
+/// A way to print what came of a journal.
+pub trait Printout {
+    /// Posts the calls of a plan in an empty book, by any method, and prints what came of them.
     fn print<M: CreditMethod + Drop, B: AccountBook>(
         &self,
         progress: &mut Progress<HostRuntime>,

@@ -1,25 +1,25 @@
-// Whole journals: how many statements they have, or where they are refused and what was expected there.
-use journal::text::read_journal;
+//! Whole journals: how many statements they have, or where they are refused and what was expected there.
 use journal::order::read_head;
+use journal::text::read_journal;
 use std::alloc::Global;
 use std::process::Abort;
 use std::test::Fail;
 
-// What is told of a journal: nothing, or its mistake.
-fn told(text: &[u8], heap: Global) -> Result<String, Fail> {
+// What is wrong with a journal: nothing, or its mistake in words.
+fn mistake_of(text: &[u8], heap: Global) -> Result<String, Fail> {
     let journal = match read_journal(text, heap) {
         Ok(journal) => journal,
         Err(why) => return Ok(why.to_string(heap)?),
     };
-    match read_head(journal.entries.as_slice(), journal.lines.saturating_add(1)) {
+    match read_head(journal.statements.as_slice(), journal.lines.saturating_add(1)) {
         Ok(_) => Ok(String::new(heap)),
         Err(mistake) => Ok(mistake.to_string(heap)?),
     }
 }
 
 fn refused(rt: &impl Abort, heap: Global, text: &str, mistake: &str) -> Result<(), Fail> {
-    let told = told(text.as_bytes(), heap)?;
-    assert_eq!(rt; told.as_str(), mistake, "{}", text);
+    let found = mistake_of(text.as_bytes(), heap)?;
+    assert_eq!(rt; found.as_str(), mistake, "{}", text);
     Ok(())
 }
 
@@ -33,9 +33,9 @@ fn stands_on(
 ) -> Result<(), Fail> {
     let journal = read_journal(text, heap)?;
     assert_eq!(rt; journal.lines, lines);
-    assert_eq!(rt; journal.entries.len(), places.len());
-    for (entry, place) in journal.entries.iter().zip(places) {
-        assert_eq!(rt; entry.line, *place);
+    assert_eq!(rt; journal.statements.len(), places.len());
+    for (stated, place) in journal.statements.iter().zip(places) {
+        assert_eq!(rt; stated.line, *place);
     }
     Ok(())
 }

@@ -1,16 +1,17 @@
-// The lines of answers, as they are printed.
+//! The lines of answers, as they are printed.
 ghost use Rattle.std.specs.Prelude.{Some, codes, refl};
 
 use accounts::record::{Kind, Record, Size, State};
+use base::refusal::Numbered;
 use desk::answers::{OPENED, RATES_SET, answer_line, request_line};
 use desk::book_lines::{account_line, ledger_line};
 use desk::refusal::refusal_line;
 use desk::totals::{CentTotals, UnitTotals};
-use ledger::call::{Done, Posting, Refusal, Settlement};
-use ledger::phase::Phase;
 use journal::mistake::Mistake;
-use base::refusal::Numbered;
 use journal::statement::Expected;
+use ledger::answer::{Done, Posting, Settlement};
+use ledger::phase::Phase;
+use ledger::refusal::Refusal;
 use std::alloc::Global;
 use std::fmt;
 use std::process::Abort;
