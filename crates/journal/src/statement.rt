@@ -50,9 +50,9 @@ pub enum Statement {
     Bill { account: u64, cents: u64 },
     /// The last bill of an account.
     Final { account: u64, cents: u64 },
-    /// Pays units of the bank out to an account.
+    /// Moves units from the host bank to an account.
     Disburse { account: u64, units: u64 },
-    /// Forfeits the units that are left in the bank.
+    /// Forfeits the host bank.
     Lapse,
     /// Closes the open period.
     Close,

@@ -13,10 +13,8 @@ pub(crate) fn push_right<T: Display>(
     width: usize,
     heap: Global,
 ) -> Result<(), AllocError>
-    ensures {
-        OnOk result (IfSome (T.output shown.now) (λ text.
-            string_bytes out.new ≡ string_bytes out.old ++ right width text))
-    }
+    ensures { OnOk result (IfSome (T.output shown.now) (λ text.
+        string_bytes out.new ≡ string_bytes out.old ++ right width text)) }
 {
     let text = shown.to_string(heap)?;
     let gap = width.saturating_sub(text.len());
