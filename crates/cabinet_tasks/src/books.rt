@@ -14,7 +14,6 @@ use books::image::ImageBook;
 use books::checks::check_start;
 use books::indexed::IndexedBook;
 use journal::line::JournalLine;
-use desk::plan::plan;
 use journal::order::{Head, read_head};
 use desk::plan::Plan;
 use desk::rated::Rated;
@@ -108,7 +107,7 @@ fn post_indexed<M: Rated + Drop, B: AccountBook, P: Printout>(
     statements: &[JournalLine],
 ) -> anyhow::Result<()> {
     let heap = progress.rt.alloc();
-    let plan: Plan<M> = plan(statements, heap)?;
+    let plan: Plan<M> = Plan::of_statements(statements, heap)?;
     progress.tell(plan.calls.len(), "calls are to be posted")?;
     let mut hints = vec![in heap; None; SLOTS]?;
     let mut book = IndexedBook::new(book, hints.as_mut_slice());

@@ -2,7 +2,7 @@
 use Rattle.std.specs.Prelude.{ℕ, Bool, true, false, List, [], Some, None, Ok, Err, codes, Option, Result}
 use Rattle.crediting.specs.Refusals.{number, place, reason}
 use Rattle.crediting.specs.declared.rates.RatesRefusal.{RatesRefusal}
-use Rattle.requests.specs.Causes.{number_of, place_of, words_of}
+use Rattle.requests.specs.Refusals.{number_of, place_of, reason_of}
 use Rattle.requests.specs.declared.fault.RequestRefusal.{RequestRefusal}
 use Rattle.ledger.specs.declared.answer.Done.{Done}
 use Rattle.ledger.specs.declared.refusal.Refusal.{Refusal}
@@ -40,7 +40,7 @@ rates_text word (Err why) = refused_text word (number why) (place why) (reason w
 
 abbrev pub file_text : List ℕ → Result ℕ RequestRefusal → List ℕ
 file_text word (Ok lines) = request_text lines
-file_text word (Err why) = refused_text word (number_of why) (place_of why) (words_of why)
+file_text word (Err why) = refused_text word (number_of why) (place_of why) (reason_of why)
 
 -- a call without an answer has no line
 abbrev pub call_text : List ℕ → Option (Result Done Refusal) → List ℕ

@@ -1,10 +1,10 @@
 -- The calls and the notes of a journal, statement by statement.
 use Rattle.std.specs.Prelude.{◌≡◌, ℕ, List, [], ◌∷◌, ◌++◌, map, replicate, Ok, Err, vec_items, Result, fold}
 use Rattle.accounts.specs.declared.record.Line.{Line}
-use Rattle.base.specs.Limits.{classes, most_lines}
+use Rattle.base.specs.Limits.{classes}
 use Rattle.crediting.specs.Refusals.{judged}
 use Rattle.crediting.specs.declared.rates.RatesRefusal.{RatesRefusal}
-use Rattle.requests.specs.Meaning.{reading, counted}
+use Rattle.requests.specs.Meaning.{meaning, counted}
 use Rattle.requests.specs.declared.fault.RequestRefusal.{RequestRefusal}
 use Rattle.journal.specs.Meanings.{Meaning}
 use Rattle.journal.specs.Meanings as statement
@@ -75,9 +75,9 @@ abbrev pub read_file : State → List ℕ → State
 read_file s file =
     record {
       rates = s.rates;
-      lines = lines_if (reading file most_lines) s.lines;
+      lines = lines_if (meaning file) s.lines;
       calls = s.calls;
-      notes = s.notes ++ note.Request (counted (reading file most_lines)) ∷ [];
+      notes = s.notes ++ note.Request (counted (meaning file)) ∷ [];
     }
 
 -- the lines in hand are enrolled, and then none are

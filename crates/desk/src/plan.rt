@@ -7,13 +7,13 @@ ghost use Rattle.desk.specs.Plans.{seen, begun, noted, called, with_rates, more_
 use crate::note::Note;
 use crate::rated::Rated;
 use accounts::record::Line;
-use base::limits::MOST_LINES;
 use crediting::method::CreditMethod;
 use crediting::volumetric::Volumetric;
 use journal::line::JournalLine;
 use journal::statement::Statement;
 use ledger::call::Call;
-use requests::reader::read;
+use requests::fault::ReadError;
+use requests::reader::read_lines;
 use std::alloc::{AllocError, Global};
 use std::mem;
 
@@ -53,10 +53,8 @@ impl<M: Rated + Drop> Plan<M> {
 
     /// A statement that is a call.
     fn call(&mut self, call: Call<M>) -> Result<(), AllocError>
-        ensures {
-            OnOk result (Becomes M.CreditMethod.worth self.old self.new
-                (λ s. called s (deed M.CreditMethod.worth call) (note_of call)))
-        }
+        ensures { OnOk result (Becomes M.CreditMethod.worth self.old self.new
+            (λ s. called s (deed M.CreditMethod.worth call) (note_of call))) }
     {
         self.notes.push(Note::from(&call))?;
         self.calls.push(call)?;
@@ -83,12 +81,15 @@ impl<M: Rated + Drop> Plan<M> {
     fn read_request(&mut self, file: &[u8], heap: Global) -> Result<(), AllocError>
         ensures { OnOk result (Becomes M.CreditMethod.worth self.old self.new (λ s. read_file s file.now)) }
     {
-        let mut table = [Line::default(); MOST_LINES];
-        let read = read(file, &mut table);
-        if let Ok(lines) = read {
-            self.lines = Vec::from_slice(heap, &table[..lines])?;
+        match read_lines(file, heap) {
+            Ok(lines) => {
+                let count = lines.len();
+                self.lines = lines;
+                self.note(Note::Request(Ok(count)))
+            }
+            Err(ReadError::Refused(why)) => self.note(Note::Request(Err(why))),
+            Err(ReadError::NoMemory) => Err(AllocError),
         }
-        self.note(Note::Request(read))
     }
 
     /// Enrols the lines in hand, and then none are.
@@ -101,10 +102,8 @@ impl<M: Rated + Drop> Plan<M> {
 
     /// One statement more. A statement of the journal's head adds nothing.
     pub fn add(&mut self, stated: &JournalLine, heap: Global) -> Result<(), AllocError>
-        ensures {
-            OnOk result (Becomes M.CreditMethod.worth self.old self.new
-                (λ s. step M.Rated.worths s (content_of stated.now)))
-        }
+        ensures { OnOk result (Becomes M.CreditMethod.worth self.old self.new
+            (λ s. step M.Rated.worths s (content_of stated.now))) }
     {
         match stated.statement {
             Statement::Method(_) | Statement::Book(_) | Statement::Open(_) => Ok(()),
@@ -134,21 +133,16 @@ impl<M: Rated + Drop> Plan<M> {
             Statement::Close => self.call(Call::Close),
         }
     }
-}
 
-/// The calls and notes of a whole journal; an error only where memory fails.
-pub fn plan<M: Rated + Drop>(
-    statements: &[JournalLine],
-    heap: Global,
-) -> Result<Plan<M>, AllocError>
-    ensures {
-        IfOk result (λ p. seen M.CreditMethod.worth p
-            ≡ planned M.Rated.worths begun (map content_of statements.now))
+    /// The calls and notes of a whole journal; an error only where memory fails.
+    pub fn of_statements(statements: &[JournalLine], heap: Global) -> Result<Plan<M>, AllocError>
+        ensures { IfOk result (λ p. seen M.CreditMethod.worth p
+            ≡ planned M.Rated.worths begun (map content_of statements.now)) }
+    {
+        let mut plan = Plan::new(heap);
+        for stated in statements {
+            plan.add(stated, heap)?;
+        }
+        Ok(plan)
     }
-{
-    let mut plan = Plan::new(heap);
-    for stated in statements {
-        plan.add(stated, heap)?;
-    }
-    Ok(plan)
 }

@@ -7,10 +7,8 @@ use std::alloc::{AllocError, Global};
 
 /// `WORD: refused NUMBER place PLACE: reason`, by the first word of the statement that is refused.
 pub fn refusal_line<R: Numbered>(word: &str, why: &R, heap: Global) -> Result<String, AllocError>
-    ensures {
-        IfOk result (λ s. string_bytes s
-            ≡ refused_text word.now (R.number why.now) (R.place why.now) (R.reason why.now))
-    }
+    ensures { IfOk result (λ s. string_bytes s
+        ≡ refused_text word.now (R.number why.now) (R.place why.now) (R.reason why.now)) }
 {
     let number = why.number();
     let place = why.place();

@@ -72,11 +72,9 @@ pub fn unit_totals<M, B: AccountBook>(
     book: &B,
     performed: &Performed<M>,
 ) -> UnitTotals
-    ensures {
-        B.sound book.now
+    ensures { B.sound book.now
         → result ≡ units_of ledger.now.bank (held_in (B.contents book.now).records)
-            performed.now.calls.now performed.now.answers.now
-    }
+        performed.now.calls.now performed.now.answers.now }
 {
     UnitTotals {
         read: performed.sum(Amount::Read),
@@ -89,9 +87,7 @@ pub fn unit_totals<M, B: AccountBook>(
 
 /// Cents applied by the calls, and whose they are.
 pub fn cent_totals<M>(ledger: &Ledger, performed: &Performed<M>) -> CentTotals
-    ensures {
-        result ≡ cents_of (fees_in ledger.now.phase) performed.now.calls.now performed.now.answers.now
-    }
+    ensures { result ≡ cents_of (fees_in ledger.now.phase) performed.now.calls.now performed.now.answers.now }
 {
     CentTotals {
         applied: performed.sum(Amount::Applied),

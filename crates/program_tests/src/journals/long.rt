@@ -1,6 +1,6 @@
 //! A journal of over a megabyte is read whole, and every bill of it becomes a call.
 use crediting::value_stack::ValueStack;
-use desk::plan::{Plan, plan};
+use desk::plan::Plan;
 use journal::text::read_journal;
 use std::test::Fail;
 
@@ -17,7 +17,7 @@ fn sixty_thousand_bills(rt: HostRuntime) -> Result<(), Fail> {
     let journal = read_journal(text.as_slice(), heap)?;
     assert_eq!(rt; journal.lines, BILLS + 3);
     assert_eq!(rt; journal.statements.len(), BILLS + 3);
-    let plan: Plan<ValueStack> = plan(journal.statements.as_slice(), heap)?;
+    let plan: Plan<ValueStack> = Plan::of_statements(journal.statements.as_slice(), heap)?;
     assert_eq!(rt; plan.calls.len(), BILLS);
     assert_eq!(rt; plan.notes.len(), BILLS);
     Ok(())

@@ -1,7 +1,7 @@
 use Rattle.std.proofs.Common.{◌≡◌, map, take}
 use Rattle.journal.specs.JournalLines.{content_of}
 use Rattle.desk.specs.Plans.{seen, begun, planned}
-use Rattle.desk.proofs.plan.plan.Given as goal
+use Rattle.desk.proofs.plan.Plan.of_statements.Given as goal
 
 abbrev pub invariant-loop-stated : goal.invariant-loop-stated
 invariant-loop-stated g l =
