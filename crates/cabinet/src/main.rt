@@ -1,4 +1,4 @@
-// Posts a journal and prints what happened, or the host's monthly report; packs and shows request files.
+//! Posts a journal and prints what happened, or the host's monthly report; packs and shows request files.
 #![tactic(auto)]
 
 use cabinet_tasks::arguments::run;

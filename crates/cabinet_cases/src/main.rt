@@ -1,9 +1,9 @@
-//! Asks the cabinet for what the year's journal does not: packs and shows request files, prints the reports of a quarter,
-//! of a farm's project and of a month whose credits are published, hands it journals and nothing as its input, and gives it
-//! texts, files, journals and options with a mistake.
+//! Asks the cabinet for what the year's journal does not: packs and shows request files, prints the reports of a
+//! quarter, of a farm's project and of a month whose credits are published, hands it journals and nothing as its input,
+//! and gives it texts, files, journals and options with a mistake.
 #![tactic(auto)]
 
-use cabinet_tasks::arguments::{finish, perform};
+use cabinet_tasks::arguments::{finish, perform, run};
 use cabinet_tasks::ending::Ending;
 use std::fs;
 use std::process::ExitCode;
@@ -45,11 +45,15 @@ fn pipe(rt: &HostRuntime, journal: &str, words: &[&str]) -> anyhow::Result<()> {
     print_end(rt, perform(rt, text.as_slice(), words))
 }
 
-/// Asks with the program's own standard input.
-fn ask_on_standard_input(rt: &HostRuntime, words: &[&str]) -> anyhow::Result<()> {
-    print_words(rt, words)?;
-    println!(rt; " < stdin")?;
-    print_end(rt, perform(rt, rt.stdin(), words))
+/// Asks by this program's own words, which are `--report`, and on its own standard input, as the cabinet itself is
+/// asked.
+fn ask_as_program(rt: &HostRuntime) -> anyhow::Result<()> {
+    println!(rt; "$ cabinet --report < stdin")?;
+    if run(rt)? == ExitCode::SUCCESS {
+        println!(rt; "done")?;
+    }
+    println!(rt; "")?;
+    Ok(())
 }
 
 // it ends as the cabinet does on a request file that is refused: with status 1
@@ -102,6 +106,6 @@ fn main(rt: HostRuntime) -> anyhow::Result<ExitCode> {
     ask(&rt, &["--help"])?;
     ask(&rt, &["--report", "published_month.journal"])?;
     ask(&rt, &["published_month.journal"])?;
-    ask_on_standard_input(&rt, &["--report"])?;
+    ask_as_program(&rt)?;
     finish(&rt, perform(&rt, NOTHING, &["--show", "torn.req"]))
 }

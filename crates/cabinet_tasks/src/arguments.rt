@@ -21,8 +21,8 @@ pub fn run(rt: &HostRuntime) -> anyhow::Result<ExitCode> {
     finish(rt, perform(rt, rt.stdin(), words.as_slice()))
 }
 
-/// Performs what the words behind the program's name ask for. A journal that they do not name stands on `input`. The error
-/// says what could not be understood, read or done.
+/// Performs what the words behind the program's name ask for. A journal that they do not name stands on `input`. The
+/// error says what could not be understood, read or done.
 pub fn perform<I: Read + Drop>(
     rt: &HostRuntime,
     input: I,

@@ -1,16 +1,15 @@
 //! Packs and shows request files.
 use crate::ending::Ending;
 use accounts::record::Line;
-use desk::refusal::refusal_line;
 use anyhow::{anyhow, bail};
-use requests::filed::FiledLine;
-use requests::packing::WriteRefusal;
-use requests::writer::write;
-use requests::limits::MAX_LINES;
-use requests::reader::{read, remark};
+use desk::refusal::refusal_line;
 use journal::packed::{Packed, read_packed};
 use journal::statement::Statement;
 use journal::write::write as write_statement;
+use requests::file::RequestFile;
+use requests::filed::FiledLine;
+use requests::packing::WriteRefusal;
+use requests::writer::write;
 use std::fs;
 use std::str::from_utf8;
 
@@ -68,13 +67,18 @@ pub fn pack(rt: &HostRuntime, text: &str, file: &str) -> anyhow::Result<Ending> 
 }
 
 /// Prints a line in the form in which it is packed: as a journal's statement, without its first word.
-fn show_line(rt: &HostRuntime, file: &[u8], place: usize, line: &Line) -> anyhow::Result<()> {
-    let statement = write_statement(&Statement::Line(*line), rt.alloc())?;
+fn show_line(
+    rt: &HostRuntime,
+    file: &RequestFile,
+    place: usize,
+    line: Line,
+) -> anyhow::Result<()> {
+    let statement = write_statement(&Statement::Line(line), rt.alloc())?;
     match statement.as_str().strip_prefix(LINE_WORD) {
         Some(fields) => print!(rt; "{fields}")?,
         None => print!(rt; "{statement}")?,
     }
-    if let Some(found) = remark(file, place) {
+    if let Some(found) = file.remark(place) {
         match from_utf8(found.text) {
             Ok("") => {}
             Ok(text) => print!(rt; " {text}")?,
@@ -88,13 +92,14 @@ fn show_line(rt: &HostRuntime, file: &[u8], place: usize, line: &Line) -> anyhow
 /// Prints the lines of a request file with their remarks, or why it is refused.
 pub fn show(rt: &HostRuntime, name: &str) -> anyhow::Result<Ending> {
     let bytes = read_file(rt, name)?;
-    let file = bytes.as_slice();
-    let mut table = vec![in rt.alloc(); Line::default(); MAX_LINES]?;
-    match read(file, table.as_mut_slice()) {
-        Ok(lines) => {
+    match RequestFile::open(bytes.as_slice()) {
+        Ok(file) => {
+            let lines = file.count();
             println!(rt; "# {name}: {lines} lines")?;
-            for (place, line) in table.iter().take(lines).enumerate() {
-                show_line(rt, file, place, line)?;
+            for place in 0..lines {
+                if let Some(line) = file.line(place) {
+                    show_line(rt, &file, place, line)?;
+                }
             }
             Ok(Ending::Done)
         }

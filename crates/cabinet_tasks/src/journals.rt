@@ -1,9 +1,9 @@
 //! Reads a journal with the request files that it names.
 use crate::progress::Progress;
-use journal::text::{Journal, read_journal};
 use journal::line::JournalLine;
 use journal::mistake::Mistake;
 use journal::statement::Statement;
+use journal::text::{Journal, read_journal};
 use std::fs;
 
 /// The folder of a journal, with the bar behind it; empty where its name has none.

@@ -18,8 +18,8 @@ impl<'a, R: Clock + Eprint> Progress<'a, R> {
         Ok(Progress { rt, start, last: 0 })
     }
 
-    /// Tells on standard error how many things were done, as `cabinet: 12 lines are read`: at most once in a second, and not
-    /// within the first.
+    /// Tells on standard error how many things were done, as `cabinet: 12 lines are read`: at most once in a second, and
+    /// not within the first.
     pub fn tell(&mut self, count: usize, what: &str) -> anyhow::Result<()> {
         let seconds = self.start.elapsed(self.rt)?.as_secs();
         if seconds > self.last {

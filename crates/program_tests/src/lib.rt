@@ -1,4 +1,5 @@
-//! Tests that cross crates: the lines that are read and printed, whole journals, reports, and how the program's tasks end.
+//! Tests that cross crates: the lines that are read and printed, whole journals, reports, and how the program's tasks
+//! end.
 #![tactic(auto)]
 
 #[cfg(test)]

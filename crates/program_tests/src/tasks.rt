@@ -61,10 +61,10 @@ fn ends(
     runtime: FakeRuntime,
     end: anyhow::Result<Ending>,
     status: ExitCode,
-    told: &[u8],
+    errors: &[u8],
 ) -> anyhow::Result<()> {
     assert_eq!(rt; finish(&runtime, end)?, status);
-    assert_eq!(rt; runtime.into_errors().as_slice(), told);
+    assert_eq!(rt; runtime.into_errors().as_slice(), errors);
     Ok(())
 }
 
@@ -76,8 +76,8 @@ fn endings(rt: HostRuntime) -> anyhow::Result<()> {
     ends(&rt, FakeRuntime::new(heap), done, ExitCode::SUCCESS, b"")?;
     ends(&rt, FakeRuntime::new(heap), refused, ExitCode::FAILURE, b"")?;
     let mistake = anyhow!("journal line 3: expected an account, in digits");
-    let told = b"journal line 3: expected an account, in digits\n";
-    ends(&rt, FakeRuntime::new(heap), Err(mistake), ExitCode::FAILURE, told)
+    let line = b"journal line 3: expected an account, in digits\n";
+    ends(&rt, FakeRuntime::new(heap), Err(mistake), ExitCode::FAILURE, line)
 }
 
 // From 100 seconds on: nothing within the first second, and one line in each later one in which there is something to
@@ -100,8 +100,8 @@ fn progress(rt: HostRuntime) -> anyhow::Result<()> {
         runtime.now.set(Duration::from_millis(now));
         progress.tell(count, "lines are read")?;
     }
-    let told =
+    let lines =
         "cabinet: 3 lines are read\ncabinet: 5 lines are read\ncabinet: 7 lines are read\ncabinet: 9 lines are read\n";
-    assert_eq!(rt; runtime.into_errors().as_slice(), told.as_bytes());
+    assert_eq!(rt; runtime.into_errors().as_slice(), lines.as_bytes());
     Ok(())
 }

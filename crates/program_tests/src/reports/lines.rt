@@ -30,7 +30,8 @@ fn payment(rt: HostRuntime) -> Result<(), Fail> {
     Ok(())
 }
 
-// The largest reading makes one satellite's units the most that an account may hold; another has the smallest percentage.
+// The largest reading makes one satellite's units the most that an account may hold; another has the smallest
+// percentage.
 #[test]
 fn summary(rt: HostRuntime) -> Result<(), Fail> {
     let heap = rt.alloc();
