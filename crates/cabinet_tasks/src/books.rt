@@ -43,7 +43,11 @@ pub fn post_input<P: Printout, I: Read + Drop>(
 }
 
 /// Posts the journal in a file. Request files that it names are looked for where the program runs, and then beside it.
-pub fn post_file<P: Printout>(rt: &HostRuntime, printout: &P, name: &str) -> anyhow::Result<Ending> {
+pub fn post_file<P: Printout>(
+    rt: &HostRuntime,
+    printout: &P,
+    name: &str,
+) -> anyhow::Result<Ending> {
     let text = read_file(rt, name)?;
     post_text(rt, printout, folder_of(name), text.as_slice())
 }

@@ -67,12 +67,7 @@ pub fn pack(rt: &HostRuntime, text: &str, file: &str) -> anyhow::Result<Ending> 
 }
 
 /// Prints a line in the form in which it is packed: as a journal's statement, without its first word.
-fn show_line(
-    rt: &HostRuntime,
-    file: &RequestFile,
-    place: usize,
-    line: Line,
-) -> anyhow::Result<()> {
+fn show_line(rt: &HostRuntime, file: &RequestFile, place: usize, line: Line) -> anyhow::Result<()> {
     let statement = write_statement(&Statement::Line(line), rt.alloc())?;
     match statement.as_str().strip_prefix(LINE_WORD) {
         Some(fields) => print!(rt; "{fields}")?,

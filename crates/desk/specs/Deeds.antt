@@ -25,7 +25,7 @@ deed worth (call.Disburse account units) = a_disbursement account units
 deed worth call.Lapse = a_lapse
 deed worth call.Close = a_close
 
--- what the statement of a call tells: the call's answer
+-- the note of a call's statement
 abbrev pub note_of : {M : Type 0} → Call M → Note
 note_of (call.Enrol _) = note.Enrol
 note_of (call.Reading _) = note.Reading

@@ -51,7 +51,7 @@ abbrev pub rates_if : Result (Unit {0}) RatesRefusal → List ℕ → List ℕ �
 rates_if (Ok _) new old = new
 rates_if (Err _) new old = old
 
--- rates, and what is told of them
+-- rates, and whether they are set
 abbrev pub with_rates : State → List ℕ → State
 with_rates s rs =
     record {

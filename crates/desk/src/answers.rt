@@ -62,7 +62,7 @@ fn done_line(done: Done, heap: Global) -> Result<String, AllocError>
     }
 }
 
-/// The line of a call; `word` is its statement's first, under which it is told where the ledger declines it.
+/// The line of a call; where the ledger declines it, with `word` ahead, the first of its statement.
 pub fn answer_line(
     word: &str,
     answer: Result<Done, Refusal>,

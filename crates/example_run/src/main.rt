@@ -1,28 +1,28 @@
-// Posts two months of a small project through a run, with each crediting method and in each kind of book, and prints
-// every answer, the ledger and the accounts.
+//! Posts two months of a small project through a run, with each crediting method and in each kind of book, and prints
+//! every answer, the ledger and the accounts.
 #![tactic(auto)]
 
 use accounts::book::AccountBook;
 use accounts::project::Project;
 use accounts::record::{Kind, Line, Record, Size};
-use desk::answers::answer_line;
-use desk::book_lines::{account_line, ledger_line};
-use desk::refusal::refusal_line;
 use anyhow::anyhow;
+use books::image::ImageBook;
+use books::table::TableBook;
 use crediting::method::CreditMethod;
 use crediting::value_stack::ValueStack;
 use crediting::volumetric::Volumetric;
-use books::image::ImageBook;
-use ledger_run::refusal::RunRefusal;
-use ledger_run::run::run;
+use desk::answers::answer_line;
+use desk::book_lines::{account_line, ledger_line};
 use desk::log::word;
+use desk::note::Note;
+use desk::refusal::refusal_line;
 use ledger::answer::Done;
 use ledger::call::Call;
-use ledger::refusal::Refusal;
 use ledger::ledger::Ledger;
-use desk::note::Note;
+use ledger::refusal::Refusal;
+use ledger_run::refusal::RunRefusal;
+use ledger_run::run::run;
 use std::alloc::{AllocError, Global};
-use books::table::TableBook;
 
 const SHOP: u64 = 20_010_000_001;
 
@@ -30,12 +30,13 @@ const FLAT: u64 = 20_010_000_002;
 
 const MILL: u64 = 20_010_000_003;
 
-// an exempt project; each program names its own
+/// An exempt project: requests of any number of lines.
 const EXEMPT: Project = Project {
     smallest: 1,
     farm: false,
 };
 
+/// A line of a satellite that saves 10 percent.
 fn line(account: u64, percentage: u32, kind: Kind) -> Line {
     Line {
         account,
@@ -47,7 +48,7 @@ fn line(account: u64, percentage: u32, kind: Kind) -> Line {
     }
 }
 
-// Two members and an anchor.
+/// Two members and an anchor.
 fn request(heap: Global) -> Result<Vec<Line>, AllocError> {
     let lines = [
         line(SHOP, 40_000, Kind::Member),
@@ -57,6 +58,7 @@ fn request(heap: Global) -> Result<Vec<Line>, AllocError> {
     lines.to_vec(heap)
 }
 
+/// A bill of an account.
 fn bill<M>(method: M, account: u64, cents: u64) -> Call<M> {
     Call::Bill {
         method,
@@ -65,8 +67,7 @@ fn bill<M>(method: M, account: u64, cents: u64) -> Call<M> {
     }
 }
 
-// The first month: an account is billed twice over.
-// The calls are put one by one, since an array of them is not known to fit in memory for every type of method.
+/// The calls of the first month: an account is billed twice over.
 fn first_month<M: Copy>(
     calls: &mut Vec<Call<M>>,
     method: M,
@@ -82,7 +83,8 @@ fn first_month<M: Copy>(
     Ok(())
 }
 
-// Between the months units are disbursed and the rest of the bank lapses; then the anchor leaves.
+/// The calls of the second month: ahead of it units are disbursed and the rest of the bank lapses; in it the anchor
+/// leaves.
 fn second_month<M: Copy>(calls: &mut Vec<Call<M>>, method: M) -> Result<(), AllocError> {
     calls.push(Call::Disburse {
         account: FLAT,
@@ -101,18 +103,20 @@ fn second_month<M: Copy>(calls: &mut Vec<Call<M>>, method: M) -> Result<(), Allo
     Ok(())
 }
 
+/// The line of each call's answer.
 fn print_answers<M>(
     rt: &HostRuntime,
     calls: &[Call<M>],
-    said: &[Result<Done, Refusal>],
+    answers: &[Result<Done, Refusal>],
 ) -> anyhow::Result<()> {
-    for (call, answer) in calls.iter().zip(said) {
+    for (call, answer) in calls.iter().zip(answers) {
         let text = answer_line(word(Note::from(call)), *answer, rt.alloc())?;
         println!(rt; "{text}")?;
     }
     Ok(())
 }
 
+/// The line of each account.
 fn print_accounts<B: AccountBook>(rt: &HostRuntime, book: &B) -> anyhow::Result<()> {
     for record in (0..book.count()).filter_map(|place| book.get(place)) {
         let text = account_line(record, rt.alloc())?;
@@ -121,6 +125,7 @@ fn print_accounts<B: AccountBook>(rt: &HostRuntime, book: &B) -> anyhow::Result<
     Ok(())
 }
 
+/// Posts both months in an empty book.
 fn post<M: CreditMethod + Copy, B: AccountBook>(
     rt: &HostRuntime,
     method: M,
@@ -132,12 +137,11 @@ fn post<M: CreditMethod + Copy, B: AccountBook>(
     second_month(&mut calls, method)?;
     let mut ledger = Ledger::new();
     match run(&mut ledger, EXEMPT, book, &calls, heap) {
-        Ok(said) => print_answers(rt, &calls, &said)?,
+        Ok(answers) => print_answers(rt, &calls, &answers)?,
         Err(RunRefusal::NotOpened(why)) => {
             let text = refusal_line("open", &why, heap)?;
             println!(rt; "{text}")?;
         }
-        // in words of its own: the text that it prints stays
         Err(RunRefusal::NoMemory) => return Err(anyhow!("no memory for the answers")),
     }
     let text = ledger_line(ledger.phase(), ledger.closed_periods(), ledger.bank(), heap)?;
@@ -145,7 +149,7 @@ fn post<M: CreditMethod + Copy, B: AccountBook>(
     print_accounts(rt, book)
 }
 
-// In a table and in an image.
+/// Posts both months in a table and in an image.
 fn post_both<M: CreditMethod + Copy>(
     rt: &HostRuntime,
     title: &str,
@@ -159,7 +163,7 @@ fn post_both<M: CreditMethod + Copy>(
     post(rt, method, &mut ImageBook::start(&mut image))
 }
 
-// Volumetric is at 10.946 cents for every class.
+// volumetric at 10.946 cents for every class
 fn main(rt: HostRuntime) -> anyhow::Result<()> {
     post_both(&rt, "Value Stack", ValueStack)?;
     let mut method = Volumetric::new();

@@ -1,4 +1,4 @@
--- A line's first word tells how the others are read.
+-- A line's first word says how the others are read.
 use Rattle.std.proofs.Common.{◌≡◌, ℕ, false, List, ◌∷◌, Some, Ok, Err, Option, Result, MatchResult, IsOkAnd, arith}
 use Rattle.std.specs.Option.{option_map, ok_or}
 use Rattle.journal.specs.declared.keyword.Keyword.{Keyword}

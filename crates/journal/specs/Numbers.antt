@@ -2,7 +2,7 @@
 use Rattle.std.specs.Prelude.{ℕ, ◌+◌, ◌-◌, ◌*◌, min, cond, List, [], ◌∷◌, Some, None, Option}
 use Rattle.std.specs.Char.{is_ascii_digit}
 
--- digits behind a number so far; a number above the most that is told stands for that
+-- digits behind a number so far; the most stands for a number above it
 unfoldable pub digits_after : ℕ → ℕ → List ℕ → Option ℕ
 digits_after most n [] = Some (min n most)
 digits_after most n (b ∷ bs) = cond (is_ascii_digit b) (digits_after most (n * 10 + (b - 48)) bs) None

@@ -1,4 +1,5 @@
-//! The head of a journal: it opens with the method, the book and the opening, in this order, and has none of them later.
+//! The head of a journal: it begins with the method, the book and the opening, in this order, and has none of them
+//! later.
 ghost use Rattle.std.specs.Prelude.{◌≡◌, map, Some};
 ghost use Rattle.journal.specs.Meanings.{meaning};
 ghost use Rattle.journal.specs.Orders.{part, wanted_in, next, ordered, headed, head_of, placed, wanted_text};

@@ -26,8 +26,8 @@ fn behind_space(left: &[u8]) -> &[u8]
 }
 
 /// What a line of the text says: the six fields of a line, then a space and the host's remark, which is what is left of
-/// the line. None where the line is blank or its first word begins with `#`; a field that is missing or another word in
-/// its place is told by what was expected.
+/// the line. None where the line is blank or its first word begins with `#`; the error is what was expected in the place
+/// of the first field that is missing or wrong.
 #[tactic(auto, using(crate::proofs::Packing::packs))]
 pub fn read_packed<'a>(text: &'a [u8]) -> Result<Option<Packed<'a>>, ParseError>
     ensures { result_map_both (option_map (λ p. (p.line, p.remark.now))) (λ e. e) result

@@ -178,9 +178,9 @@ pub(crate) fn is_remark(word: &[u8]) -> bool
     word.first() == Some(&b'#')
 }
 
-/// The statement of a line; none where the line is blank or a remark, which begins with `#`. A line that says no
-/// statement is told by the first word that is missing or has another in its place. Memory is asked for rates and for
-/// the name of a file alone.
+/// The statement of a line; none where the line is blank or a remark, which begins with `#`. The error is what was
+/// expected in the place of the first word that is missing or wrong. Memory is asked for rates and for the name of a
+/// file alone.
 #[tactic(auto, using(crate::proofs::Saying::saying))]
 pub fn parse(line: &[u8], heap: Global) -> Result<Option<Statement>, ParseError>
     ensures value { Reads (option_map meaning) (statement_of line.now) result }

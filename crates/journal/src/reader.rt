@@ -48,8 +48,8 @@ impl<'a> Reader<'a> {
         if word.is_empty() { None } else { Some(word) }
     }
 
-    /// The number that the next word writes, and `most` in the place of a larger one; `what` is expected where the word is
-    /// no number or missing.
+    /// The number that the next word writes, and `most` in the place of a larger one; `what` is expected where the word
+    /// is missing or no number.
     pub fn number(&mut self, what: Expected, most: u64) -> Result<u64, ParseError>
         ensures value { result ≡ number_at what most (first (words self.old.left.now)) }
         ensures left { WordTaken self.old.left.now self.new.left.now }

@@ -77,7 +77,13 @@ fn endings(rt: HostRuntime) -> anyhow::Result<()> {
     ends(&rt, FakeRuntime::new(heap), refused, ExitCode::FAILURE, b"")?;
     let mistake = anyhow!("journal line 3: expected an account, in digits");
     let line = b"journal line 3: expected an account, in digits\n";
-    ends(&rt, FakeRuntime::new(heap), Err(mistake), ExitCode::FAILURE, line)
+    ends(
+        &rt,
+        FakeRuntime::new(heap),
+        Err(mistake),
+        ExitCode::FAILURE,
+        line,
+    )
 }
 
 // From 100 seconds on: nothing within the first second, and one line in each later one in which there is something to

@@ -33,8 +33,8 @@ fn after_call(row: Row, done: &Done) -> Row
     }
 }
 
-/// Notes what a performed call on an account did in the row at a place, counted from 0. A row of another account is as it
-/// was, and so are all where the place is past the last.
+/// Notes what a performed call on an account did in the row at a place, counted from 0. A row of another account stays
+/// as it was, and so do all where the place is past the last.
 pub fn note(rows: &mut [Row], place: usize, account: u64, done: &Done)
     ensures { rows.new ≡ noted rows.old place account done.now }
 {

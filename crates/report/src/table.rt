@@ -106,7 +106,8 @@ fn table_line<L: Display, P: Display>(
     figures: Figures,
     heap: Global,
 ) -> Result<String, AllocError>
-    ensures { IfOk result (λ s. IsTableLine (L.output label.now) (P.output percent.now) figures (string_bytes s)) }
+    ensures { IfOk result (λ s. IsTableLine (L.output label.now) (P.output percent.now) figures
+        (string_bytes s)) }
 {
     let mut line = String::new(heap);
     push_right(&mut line, label, 11, heap)?;

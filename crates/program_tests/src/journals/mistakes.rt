@@ -11,7 +11,10 @@ fn mistake_of(text: &[u8], heap: Global) -> Result<String, Fail> {
         Ok(journal) => journal,
         Err(why) => return Ok(why.to_string(heap)?),
     };
-    match read_head(journal.statements.as_slice(), journal.lines.saturating_add(1)) {
+    match read_head(
+        journal.statements.as_slice(),
+        journal.lines.saturating_add(1),
+    ) {
         Ok(_) => Ok(String::new(heap)),
         Err(mistake) => Ok(mistake.to_string(heap)?),
     }

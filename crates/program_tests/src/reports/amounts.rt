@@ -20,11 +20,7 @@ fn dollars(rt: HostRuntime) -> Result<(), Fail> {
 #[test]
 fn percentages(rt: HostRuntime) -> Result<(), Fail> {
     let heap = rt.alloc();
-    for (thousandths, text) in [
-        (5, "0.005"),
-        (6_125, "6.125"),
-        (100_000, "100.000"),
-    ] {
+    for (thousandths, text) in [(5, "0.005"), (6_125, "6.125"), (100_000, "100.000")] {
         assert_eq!(rt; Percent::from(thousandths).to_string(heap)?.as_str(), text);
     }
     Ok(())
