@@ -91,7 +91,7 @@ module _ (bs : List ℕ) (n room : ℕ) (o : Open bs n room) (r : Record) (ok : 
           apart = ap (λ rs. distinct (accounts rs)) list_replaced ∙ p.apart;
         }
 
--- what an image of so many records is after a change: a book's still, of this list, and as it was behind the last record
+-- an image of a book, changed: it is a book's still, has this list, and is as it was behind the last record
 pub record Changed (bs bs' : List ℕ) (n room : ℕ) (then : List Record) : Type 0 where
   pub reads : Reads bs' n room
   pub list : held n bs' ≡ then

@@ -111,7 +111,7 @@ module _ (bs : List ℕ) where
       ap (every in_range) (held_more n s.0 s.1)
       ∙ every_push in_range (held n bs) s.0 (every_held n (legible_less (suc n) n (omega arith) l)) (in_range_decoded (slot n bs) s.0 s.1)
 
-  -- and the other way
+  -- and a legible list with no account twice has no unfit place
   pub fit_each : (n : ℕ) → Legible n bs → distinct (accounts (held n bs)) ≡ true → (j : ℕ) → j < n → unfit j bs ≡ false
   unfolding held
   fit_each zero l d j h = absurd (omega arith)

@@ -9,7 +9,7 @@ module _ (at : ℕ) (new bs : List ℕ) (fits : at + length new ≤ length bs) w
   front : length (take at bs) ≡ at
   front = length-take-le at bs (omega arith)
 
-  -- as std says it
+  -- the same bytes in a word of std
   as_put : written at new bs ≡ put_mid at (length new) bs new
   as_put = ap (λ rest. take at bs ++ (new ++ rest)) (sym (drop-drop (length new) at bs))
 

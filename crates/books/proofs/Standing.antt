@@ -28,7 +28,7 @@ found_later : (n a i : ℕ) (xs : List ℕ) → i < n → is_at (find_from n a x
 found_later n a i [] h = refl
 found_later n a i (x ∷ xs) h = let ih = found_later (n + 1) a i xs (omega arith) in grind (arith, nat_tests)
 
--- counted from n
+-- the same of a search that counts from n
 standing_from : (n a i : ℕ) (rs : List Record) → distinct (accounts rs) ≡ true → has (slice_get rs i) a ≡ is_at (find_from n a (accounts rs)) (n + i)
 standing_from n a i [] d = refl
 standing_from n a zero (r ∷ rs) d =

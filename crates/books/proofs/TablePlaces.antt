@@ -33,7 +33,7 @@ pub proper_replaced : (table : List Record) (n i : ℕ) (r : Record) → Proper 
 proper_replaced table n i r p t =
     simp (length-set, set_within table n i r t) (proper_replace (take n table) (min 4096 (length table)) i r p t)
 
--- so what is said of adding and replacing leaves as records what the interface says: one more, last, or another in its place
+-- the records of a table with a record added, and with one replaced
 pub added_records : (old new : TableBook) (r : Record) → takes (records_of old) (room_of old) r ≡ true → Added true old new r → records_of new ≡ records_of old ++ r ∷ []
 added_records old new r t left =
     let h = (takes_parts (records_of old) (room_of old) r t).0 in

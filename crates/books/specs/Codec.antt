@@ -52,9 +52,12 @@ marked (Some z) (Some k) (Some s) bs =
 unfoldable pub fields_in : List ℕ → Option Record
 fields_in bs = marked (size_of (slice_index bs 15)) (kind_of (slice_index bs 16)) (state_of (slice_index bs 17)) bs
 
+abbrev pub has_zero_filler : List ℕ → Bool
+has_zero_filler bs = bytes_eq (part 30 filler_bytes bs) (replicate filler_bytes 0)
+
 -- as many bytes as a record has, of which the filler is 0
 abbrev pub framed : List ℕ → Bool
-framed bs = length bs == record_bytes && bytes_eq (part 30 filler_bytes bs) (replicate filler_bytes 0)
+framed bs = length bs == record_bytes && has_zero_filler bs
 
 -- nothing where the bytes are too few or too many, a filler byte is not 0, a mark is unknown or a number is out of
 -- range

@@ -15,8 +15,11 @@ image_of b = b.image.now
 abbrev pub loan_of : ImageBook → ℕ
 loan_of b = b.image.ghost_name
 
+abbrev pub count_of : ImageBook → ℕ
+count_of b = b.count
+
 abbrev pub records_of : ImageBook → List Record
-records_of b = held b.count (image_of b)
+records_of b = held (count_of b) (image_of b)
 
 abbrev pub room_of : ImageBook → ℕ
 room_of b = b.room
@@ -26,14 +29,14 @@ contents_of b = record { records = records_of b; room = room_of b; side = []; lo
 
 -- a proper book that its image, opened again, gives back
 abbrev pub Sound : ImageBook → Type 0
-Sound b = Reads (image_of b) b.count (room_of b)
+Sound b = Reads (image_of b) (count_of b) (room_of b)
 
 -- the bytes that hold neither the count nor a record are as they were: no place is taken out of use, the bytes behind
 -- the last record stay, and an image that makes a book of no room stays whole
 pub record SameRest (old new : ImageBook) : Type 0 where
-  pub grows : old.count ≤ new.count
+  pub grows : count_of old ≤ count_of new
   pub same_room : room_of new ≡ room_of old
-  pub past : drop (start_of new.count) (image_of new) ≡ drop (start_of new.count) (image_of old)
+  pub past : drop (start_of (count_of new)) (image_of new) ≡ drop (start_of (count_of new)) (image_of old)
   pub roomless : room_of old ≡ 0 → image_of new ≡ image_of old
 
 -- a call leaves a book of these records, and keeps the rest
@@ -60,8 +63,8 @@ ComesBack bs n room = (b : ImageBook) → Sound b → image_of b ≡ bs → (rec
 -- what adding leaves: where it is accepted, the bytes behind the last record are those of the new one, and the bytes of
 -- the count those of the new count; every other byte stays
 pub record Added (accepted : Bool) (old new : ImageBook) (r : Record) : Type 0 where
-  pub image : image_of new ≡ cond accepted (with_added old.count r (image_of old)) (image_of old)
-  pub count : new.count ≡ cond accepted (old.count + 1) old.count
+  pub image : image_of new ≡ cond accepted (with_added (count_of old) r (image_of old)) (image_of old)
+  pub count : count_of new ≡ cond accepted (count_of old + 1) (count_of old)
   pub room : room_of new ≡ room_of old
   pub loan : loan_of new ≡ loan_of old
 
@@ -69,6 +72,6 @@ pub record Added (accepted : Bool) (old new : ImageBook) (r : Record) : Type 0 w
 -- stays
 pub record Replaced (accepted : Bool) (old new : ImageBook) (place : ℕ) (r : Record) : Type 0 where
   pub image : image_of new ≡ cond accepted (with_record place r (image_of old)) (image_of old)
-  pub count : new.count ≡ old.count
+  pub count : count_of new ≡ count_of old
   pub room : room_of new ≡ room_of old
   pub loan : loan_of new ≡ loan_of old

@@ -2,7 +2,7 @@
 ghost use Rattle.std.specs.Prelude.{◌≡◌, ℕ, ◌+◌, ◌<◌, ◌≤◌, true, List, Some, All};
 ghost use Rattle.accounts.specs.Ranges.{in_range};
 ghost use Rattle.books.specs.Bytes.{part};
-ghost use Rattle.books.specs.Codec.{record_bytes, encoded, decoded};
+ghost use Rattle.books.specs.Codec.{decoded, encoded, has_zero_filler, record_bytes};
 
 use accounts::record::{Kind, Record, Size, State};
 
@@ -63,13 +63,20 @@ fn field<const N: usize>(bytes: &[u8; RECORD_BYTES], at: usize) -> [u8; N]
     field
 }
 
+// Whether the filler is 0.
+fn has_zero_filler(bytes: &[u8; RECORD_BYTES]) -> bool
+    ensures { result ≡ has_zero_filler bytes.now }
+{
+    field(bytes, FILLER) == [0; FILLER_BYTES]
+}
+
 /// The record whose bytes these are; none where they are those of no record in range.
 #[tactic(auto, unfolding(crate::specs::Codec::fields_in))]
 pub fn decode(bytes: &[u8]) -> Option<Record>
     ensures { result ≡ decoded bytes.now }
 {
     let bytes: &[u8; RECORD_BYTES] = bytes.try_into().ok()?;
-    if field(bytes, FILLER) != [0; FILLER_BYTES] {
+    if !has_zero_filler(bytes) {
         return None;
     }
     let size = Size::try_from(bytes[SIZE]).ok()?;

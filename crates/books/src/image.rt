@@ -21,13 +21,13 @@ pub struct ImageBook<'a> {
 }
 
 impl<'a> ImageBook<'a> {
-    ghost use Rattle.books.specs.Holding.{image_of, loan_of, records_of, room_of, contents_of, Sound, SameRest, LeftWith, Pinned, StaysWhole, ComesBack, Added, Replaced};
+    ghost use Rattle.books.specs.Holding.{image_of, count_of, loan_of, records_of, room_of, contents_of, Sound, SameRest, LeftWith, Pinned, StaysWhole, ComesBack, Added, Replaced};
 
     /// An empty book in an image, of which the count's bytes are written and no other. An image that
     /// [`check_start`](crate::checks::check_start) refuses stays as it is, and makes a book of no room.
     pub fn start(image: &'a mut [u8]) -> ImageBook<'a>
         ensures image { image_of result ≡ started image.old }
-        ensures count { result.count ≡ 0 }
+        ensures count { count_of result ≡ 0 }
         ensures room { room_of result ≡ started_room image.old }
         ensures loan { loan_of result ≡ image.entry.ghost_name }
         ensures lent { (contents_of result).loans ≡ image.entry.ghost_name ∷ [] }
@@ -43,12 +43,12 @@ impl<'a> ImageBook<'a> {
     /// and makes a book of no room.
     pub fn open(image: &'a mut [u8]) -> ImageBook<'a>
         ensures image { image_of result ≡ image.old }
-        ensures count { result.count ≡ opened_count image.old }
+        ensures count { count_of result ≡ opened_count image.old }
         ensures room { room_of result ≡ opened_room image.old }
         ensures loan { loan_of result ≡ image.entry.ghost_name }
         ensures lent { (contents_of result).loans ≡ image.entry.ghost_name ∷ [] }
         ensures sound { Sound result }
-        ensures again { ComesBack image.old result.count (room_of result) }
+        ensures again { ComesBack image.old (count_of result) (room_of result) }
         ensures pinned { (old new : ImageBook) → Pinned old new }
         ensures whole { (b : ImageBook) → Sound b → StaysWhole b }
     {
