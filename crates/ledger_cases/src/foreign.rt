@@ -5,12 +5,12 @@ use super::stage::{EXEMPT, Stage};
 use super::steps::{Act, Step, bill, disburse, expects};
 use super::told::{ACCEPTED, Told, amount, declined, posted, settled, told};
 use accounts::book::AccountBook;
-use base::limits::MOST_UNITS;
 use accounts::project::Project;
 use accounts::record::Record;
+use base::limits::MOST_UNITS;
+use books::table::TableBook;
 use ledger::ledger::Ledger;
 use std::alloc::Global;
-use books::table::TableBook;
 
 #[derive(Clone, Copy)]
 struct Opening {

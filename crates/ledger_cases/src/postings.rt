@@ -4,8 +4,7 @@ use super::stage::{EXEMPT, on_both};
 use super::steps::{Act, Step, bill, expects, last, line, monthly, one, rated, three, two};
 use super::told::{Fact, Refused, amount, declined, declined_at, ended, posted, settled};
 use accounts::record::{Kind, Line};
-use ledger_run::worked::{worked_checks, worked_postings};
-use ledger_run::worked::worked_history;
+use ledger_run::worked::{worked_checks, worked_history, worked_postings};
 
 // At 0.4 cents, 9 kilowatt-hours are worth 3 cents. A cent takes 3 of them, and 6 are left.
 // Had the 2 cents left over been turned back into kilowatt-hours, 5 would be left, and one of the 9 would be gone.

@@ -5,16 +5,16 @@ use super::told::{ACCEPTED, Told, amount, told};
 use accounts::book::AccountBook;
 use accounts::project::Project;
 use accounts::record::{Line, Record};
+use books::image::ImageBook;
+use books::table::TableBook;
 use crediting::method::CreditMethod;
 use crediting::rates::RatesRefusal;
 use crediting::value_stack::ValueStack;
 use crediting::volumetric::Volumetric;
-use books::image::ImageBook;
 use ledger::call::Call;
-use ledger::refusal::Refusal;
 use ledger::ledger::Ledger;
+use ledger::refusal::Refusal;
 use std::alloc::Global;
-use books::table::TableBook;
 
 // An exempt project, which may ask for a single line; each program names projects of its own.
 pub const EXEMPT: Project = Project {

@@ -1,6 +1,6 @@
 // What a case tells: a fact, or a refusal by its number and place.
-use ledger::answer::{Done, Posting, Settlement};
 use base::refusal::Numbered;
+use ledger::answer::{Done, Posting, Settlement};
 use std::fmt;
 
 pub type Told = Result<Fact, Refused>;

@@ -1,5 +1,5 @@
 //! The lines of answers, as they are printed.
-ghost use Rattle.std.specs.Prelude.{Some, codes, refl};
+ghost use Rattle.std.specs.Prelude.{Some, codes, false, refl};
 
 use accounts::record::{Kind, Record, Size, State};
 use base::refusal::Numbered;
@@ -34,6 +34,8 @@ impl Numbered for TooFewBytes {
 
     ghost place = { λ _. 0 };
 
+    ghost names_place = { λ _. false };
+
     ghost reason = { λ _. codes "too few bytes" };
 
     ghost spoken = { λ _. refl };
@@ -44,6 +46,10 @@ impl Numbered for TooFewBytes {
 
     fn place(&self) -> usize {
         0
+    }
+
+    fn names_place(&self) -> bool {
+        false
     }
 }
 
