@@ -15,7 +15,7 @@ abbrev pub place : RatesRefusal → ℕ
 place WrongCount = 0
 place (OutOfRange p) = p
 
--- whether a refusal is about a rate
+-- whether a refusal is about a rate,
 abbrev pub names_place : RatesRefusal → Bool
 names_place WrongCount = false
 names_place (OutOfRange p) = true
