@@ -26,8 +26,7 @@ impl<'a> RequestFile<'a> {
     /// Judges a file: its length, its line count, all pairs, and then the lines, pairs and lines in their order. A
     /// refusal is the first fault; it is never [`RequestRefusal::Table`].
     pub fn open(bytes: &'a [u8]) -> Result<RequestFile<'a>, RequestRefusal>
-        ensures lines { result_map_both (λ file. lines_in file.bytes.now) (λ e. e) result
-            ≡ meaning bytes.now }
+        ensures read { result_map_both (λ file. lines_in file.bytes.now) (λ e. e) result ≡ meaning bytes.now }
         ensures bytes { IfOk result (λ file. file.bytes.now ≡ bytes.now) }
     {
         let lines = line_count(bytes)?;
@@ -75,8 +74,7 @@ impl<'a> RequestFile<'a> {
     /// The remark of the line at a place, counted from 0; none past the last line. A line without a remark has an empty
     /// one at its end.
     pub fn remark(&self, place: usize) -> Option<Remark<'a>>
-        ensures { option_map (λ found. (found.text.now, found.offset)) result
-            ≡ remark_at self.now.bytes.now place }
+        ensures { option_map (λ r. (r.text.now, r.offset)) result ≡ remark_at self.now.bytes.now place }
     {
         if place >= self.lines {
             return None;

@@ -1,5 +1,5 @@
 //! Reading a request file: its lines into a lent table or an owned list, and the remark of one of its lines.
-ghost use Rattle.std.specs.Prelude.{◌≡◌, length, MatchResult, Ok};
+ghost use Rattle.std.specs.Prelude.{◌≡◌, length, IfOk, IfErr, Ok};
 ghost use Rattle.std.specs.Option.{option_map};
 ghost use Rattle.requests.specs.Meaning.{meaning, reading, counted, written, remark_at};
 ghost use Rattle.requests.specs.Reading.{Declines};
@@ -29,7 +29,8 @@ pub fn read(file: &[u8], table: &mut [Line]) -> Result<usize, RequestRefusal>
 
 /// The file's lines in a list, or its first fault; or [`ReadError::NoMemory`], which no file that is refused meets.
 pub fn read_lines(file: &[u8], heap: Global) -> Result<Vec<Line>, ReadError>
-    ensures { MatchResult result (λ lines. meaning file.now ≡ Ok lines.items) (λ e. Declines file.now e) }
+    ensures reads { IfOk result (λ lines. meaning file.now ≡ Ok lines.items) }
+    ensures declines { IfErr result (Declines file.now) }
 {
     let request = RequestFile::open(file)?;
     let list = request.to_vec(heap)?;
@@ -39,7 +40,7 @@ pub fn read_lines(file: &[u8], heap: Global) -> Result<Vec<Line>, ReadError>
 /// The remark of the line at a place, counted from 0; none where the file is not in order or has no such line. To ask
 /// for several, open the file once as a [`RequestFile`].
 pub fn remark<'a>(file: &'a [u8], place: usize) -> Option<Remark<'a>>
-    ensures { option_map (λ found. (found.text.now, found.offset)) result ≡ remark_at file.now place }
+    ensures { option_map (λ r. (r.text.now, r.offset)) result ≡ remark_at file.now place }
 {
     let request = RequestFile::open(file).ok()?;
     request.remark(place)
