@@ -1,17 +1,18 @@
 #!/usr/bin/env python3
-"""Writes the tables of docs/PLANTED-BUGS.md behind its mark, from the lists of bugs and from what a run of them printed.
+"""Prints tables of the planted bugs, from the lists of bugs and from what a run of them printed.
 
-    python3 tools/tabulate_bugs.py
+    python3 tools/plant_bugs.py | tee run.log
+    python3 tools/tabulate_bugs.py run.log > page.md
 
-For each bug of tools/planted/*.txt its last line in tools/planted/run.log counts. A bug that has none was not run.
+For each bug of tools/planted/*.txt its last line in the log counts. A bug that has none was not run.
 """
 import glob
 import os
 import re
+import sys
 
 from plant_bugs import bugs
 
-MARK = "<!-- what follows is written by tools/tabulate_bugs.py -->"
 KINDS = ["a contract", "a proof", "what rests on it", "a program's output", "a test", "nothing", "not run"]
 
 
@@ -32,7 +33,9 @@ def kind(name, said):
 
 def main():
     root = os.path.dirname(os.path.dirname(os.path.abspath(__file__)))
-    with open(f"{root}/tools/planted/run.log", encoding="utf-8") as log:
+    if len(sys.argv) != 2:
+        sys.exit(__doc__)
+    with open(sys.argv[1], encoding="utf-8") as log:
         told = {tuple(parts[:2]): parts[2] for parts in (line.rstrip("\n").split(" | ") for line in log) if len(parts) > 2}
     sums, tables, rows = [0] * len(KINDS), [], []
     for path in sorted(glob.glob(f"{root}/tools/planted/*.txt")):
@@ -51,11 +54,7 @@ def main():
         tables += [f"### `{name}`", "", "| what was planted | where | refused by |", "| --- | --- | --- |", *lines, ""]
     rows.append(f"| all | {sum(sums)} | " + " | ".join(map(str, sums)) + " |")
     heads = ["| list | planted | " + " | ".join(KINDS) + " |", "| --- |" + " --- |" * (len(KINDS) + 1)]
-    page = f"{root}/docs/PLANTED-BUGS.md"
-    with open(page, encoding="utf-8") as file:
-        prose = file.read().split(MARK)[0]
-    with open(page, "w", encoding="utf-8") as file:
-        file.write("\n".join([prose + MARK, "", "## In numbers", "", *heads, *rows, "", "## Each bug", "", *tables]))
+    print("\n".join(["## In numbers", "", *heads, *rows, "", "## Each bug", "", *tables]))
 
 
 if __name__ == "__main__":

@@ -1,5 +1,5 @@
 //! What the words behind the program's name ask for, and how the program ends.
-use crate::books::{post_file, post_input};
+use crate::posting::{post_file, post_input};
 use crate::ending::Ending;
 use crate::files::{pack, show};
 use crate::help::HELP;

@@ -2,7 +2,7 @@
 #![tactic(auto)]
 
 pub mod arguments;
-pub mod books;
+pub mod posting;
 pub mod ending;
 pub mod files;
 pub mod help;

@@ -6,7 +6,15 @@ use Rattle.std.proofs.Math.Nat.{min-le_left, min-le_right}
 use Rattle.std.proofs.lemmas.Bool.{leb-true, leb-false, and_parts, cases_lt, cond_both, cond-false, cond-true}
 use Rattle.base.specs.Limits.{most_bill, most_units}
 use Rattle.crediting.specs.Credits.{Credited, Lawful, TheCredit, Within, applied_credit, smallest, units_used, worth_of}
+use Rattle.crediting.specs.Limits.{most_worth}
 use Rattle.crediting.specs.Ranges.{has_worth, in_ranges, is_class}
+
+-- what a lawful method answers for units is worth at most the most
+pub worth_most : (W : ℕ → ℕ → ℕ) (k u : ℕ) → (is_class k ≡ true → Lawful (W k)) → worth_of W k u ≤ most_worth
+worth_most W k u law =
+    cond_both (has_worth k u) (W k u) 0 (λ x. x ≤ most_worth)
+    (λ ok. (law (and_parts (is_class k) _ ok).0).bounded u (leb-true u most_units (and_parts (is_class k) _ ok).1))
+    (λ _. omega arith)
 
 -- never more than there are
 smallest_within : (W : ℕ → ℕ) (c u : ℕ) → smallest W c u ≤ u

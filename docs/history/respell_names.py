@@ -2,7 +2,7 @@
 """Turns the repository's own definitions and lemmas from an older spelling, words-with-dashes, to snake_case, and its own
 types of specs/ and proofs/ to CamelCase.
 
-usage: python3 tools/respell_names.py      at the top of the repository, once, right after port.py
+usage: python3 docs/history/respell_names.py      at the top of the repository, once, right after port.py
 
 Names that the check makes (goals, steps of a function) and names of the library keep their spelling. It prints each name
 that would fall together with another one, and leaves it as it is.
