@@ -1,9 +1,9 @@
 //! What the words behind the program's name ask for, and how the program ends.
-use crate::posting::{post_file, post_input};
 use crate::ending::Ending;
 use crate::files::{pack, show};
 use crate::help::HELP;
 use crate::log::Log;
+use crate::posting::{post_file, post_input};
 use crate::report::Report;
 use anyhow::bail;
 use std::env;

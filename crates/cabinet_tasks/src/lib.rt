@@ -2,12 +2,12 @@
 #![tactic(auto)]
 
 pub mod arguments;
-pub mod posting;
 pub mod ending;
 pub mod files;
 pub mod help;
 mod journals;
 pub mod log;
+pub mod posting;
 pub mod printout;
 pub mod progress;
 pub mod report;
