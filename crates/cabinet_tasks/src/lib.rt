@@ -7,7 +7,7 @@ pub mod files;
 pub mod help;
 mod journals;
 pub mod log;
+pub mod monthly;
 pub mod posting;
 pub mod printout;
 pub mod progress;
-pub mod report;
