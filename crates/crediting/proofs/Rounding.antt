@@ -3,7 +3,7 @@ use Rattle.std.specs.Prelude.{◌≡◌, ℕ, ◌+◌, ◌*◌, ◌/◌, ◌%◌
 use Rattle.std.proofs.Common.{arith, add-mul, le-div_iff_mul-le, mod-lt, mul-le-mul_right, one-mul, sym, ◌∙◌, ⊎_elim}
 use Rattle.std.proofs.lemmas.Nat.{div-add-mod'}
 use Rattle.std.proofs.lemmas.Bool.{and_parts, cases_Bool, cases_lt}
-use Rattle.crediting.proofs.Fewest.{applied_inside, applied_outside, used_is, used_outside}
+use Rattle.crediting.proofs.Fewest.{Uses, applied_inside, applied_outside, meant, used_is, used_outside}
 use Rattle.crediting.specs.Credits.{Credited, applied_credit, units_used}
 use Rattle.crediting.specs.Lawfulness.{by_rates_lawful, cents_lawful, class_rate}
 use Rattle.crediting.specs.Limits.{one_cent}
@@ -11,7 +11,7 @@ use Rattle.crediting.specs.Ranges.{has_worth, in_ranges}
 use Rattle.crediting.specs.Worths.{RatesInRange, by_rates, cents, rate_of}
 
 -- x / r rounded up, times r, is at least x
-up_enough : (x r : ℕ) → 0 < r → x ≤ (x / r + min 1 (x % r)) * r
+pub up_enough : (x r : ℕ) → 0 < r → x ≤ (x / r + min 1 (x % r)) * r
 up_enough x r pos =
     rw add-mul
     (⊎_elim
@@ -20,7 +20,7 @@ up_enough x r pos =
     (cases_lt 0 (x % r)))
 
 -- and it is the smallest such number
-up_fewest : (x r w : ℕ) → 0 < r → x ≤ w * r → x / r + min 1 (x % r) ≤ w
+pub up_fewest : (x r w : ℕ) → 0 < r → x ≤ w * r → x / r + min 1 (x % r) ≤ w
 up_fewest x r w pos h =
     ⊎_elim
     (λ (l : w < x / r + min 1 (x % r)).
@@ -32,7 +32,7 @@ up_fewest x r w pos h =
     (cases_lt w (x / r + min 1 (x % r)))
 
 -- by a rate of at least 1, the units used are the applied credit over the rate, rounded up
-by_rate : (r u b c : ℕ) → 0 < r → c ≡ min b (u * r / one_cent) → Credited (λ v. v * r / one_cent) u b c (c * one_cent / r + min 1 (c * one_cent % r))
+pub by_rate : (r u b c : ℕ) → 0 < r → c ≡ min b (u * r / one_cent) → Credited (λ v. v * r / one_cent) u b c (c * one_cent / r + min 1 (c * one_cent % r))
 by_rate r u b c pos e =
     record {
       lesser = e;
@@ -47,6 +47,10 @@ used_rated rs k u b c r w all ok is pays rounds =
     let class = (and_parts _ _ worth).0 in
     let p : Credited (by_rates rs k) u b c w = rw (rounds, is) (by_rate (rate_of rs k) u b c (class_rate rs k all class).0 (pays ∙ applied_inside (by_rates rs) k u b ok)) in
     used_is (by_rates rs) k u b c w (by_rates_lawful rs k all class) ok p
+
+pub uses_rated : (rs : List ℕ) (k u b c r w : ℕ) → RatesInRange rs → in_ranges k u b ≡ true → r ≡ rate_of rs k → c ≡ applied_credit (by_rates rs) k u b → w ≡ c * one_cent / r + min 1 (c * one_cent % r) → Uses (by_rates rs) k u b c w
+uses_rated rs k u b c r w all ok is pays rounds =
+    meant (by_rates rs) k u b c w (λ class. by_rates_lawful rs k all class) pays (used_rated rs k u b c r w all ok is pays rounds)
 
 -- a unit that is a cent pays one cent
 pub used_cents : (k u b c : ℕ) → c ≡ applied_credit cents k u b → c ≡ units_used cents k u b
