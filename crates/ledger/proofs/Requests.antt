@@ -11,7 +11,7 @@ use Rattle.accounts.specs.Books.{Contents, present, distinct, every, Left}
 use Rattle.accounts.specs.Ranges.{line_in_range}
 use Rattle.ledger.specs.declared.refusal.Refusal.{Refusal}
 use Rattle.ledger.specs.declared.refusal.Refusal.TheVariants as why
-use Rattle.ledger.specs.Lines.{FitsLines, enrolled, first_closed, enter_all, judge_lines, large_percentage, line_accounts, new_accounts, repeated_from, unless_at}
+use Rattle.ledger.specs.Lines.{FitsLines, enrolled, enter_all, judge_lines, large_percentage, line_accounts, new_accounts, repeated_from, unless_at}
 use Rattle.ledger.specs.Records.{unallocated}
 use Rattle.ledger.specs.Refusals.{number}
 use Rattle.ledger.proofs.Entering.{none_out, unallocated_accounts}

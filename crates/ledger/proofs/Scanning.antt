@@ -1,5 +1,5 @@
 -- What the chains over the lines of a request come to.
-use Rattle.std.proofs.Common.{◌≡◌, ℕ, Bool, cond, ◌||◌, eqb, List, [], ◌∷◌, ◌++◌, length, take, Some, refl, ap, ◌∙◌, append_assoc}
+use Rattle.std.proofs.Common.{◌≡◌, ℕ, ◌+◌, Bool, true, false, cond, ◌||◌, eqb, is_some, List, [], ◌∷◌, ◌++◌, length, take, Some, refl, ap, ◌∙◌, append_assoc}
 use Rattle.std.proofs.lemmas.List.{length_push, map_push}
 use Rattle.std.proofs.Math.Seq.{take-append_seam}
 use Rattle.std.specs.List.{enumerate_from, list_any, position_from}
@@ -8,6 +8,12 @@ use Rattle.accounts.specs.declared.record.Line.{Line}
 use Rattle.accounts.specs.declared.record.Size.TheVariants.{Small}
 use Rattle.accounts.specs.Books.{present}
 use Rattle.ledger.specs.Lines.{line_accounts, repeated_from}
+
+-- a search by place finds one where an element passes
+pub found_any : {X : Type 0} (t : X → Bool) (j : ℕ) (xs : List X) → is_some (position_from t j xs) ≡ list_any t xs
+found_any t j [] = refl
+found_any t j (x ∷ xs) =
+    elim (t x) as (λ b. is_some (cond b (Some j) (position_from t (j + 1) xs)) ≡ (b || list_any t xs)) [ true ↦ refl | false ↦ found_any t (j + 1) xs ]
 
 -- what a place past the end reads as
 abbrev pub zero_line : Line

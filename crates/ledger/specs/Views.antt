@@ -6,7 +6,7 @@ use Rattle.ledger.specs.declared.answer.Done.{Done}
 use Rattle.ledger.specs.declared.refusal.Refusal.{Refusal}
 use Rattle.ledger.specs.declared.ledger.Ledger.{Ledger}
 use Rattle.ledger.specs.States.{State, Outcome}
-use Rattle.ledger.specs.Steps.{judge_open, open_answer, open_leaves, opened}
+use Rattle.ledger.specs.Steps.{judge_open, open_leaves, opened}
 
 abbrev pub view : Ledger → Contents → State
 view l b =

@@ -26,11 +26,20 @@ pub(crate) fn first_repeated(lines: &[Line]) -> Option<usize>
         .position(|(i, line)| stands_on(&lines[..i], line.account))
 }
 
+// The place of the first line of an account.
+fn place_on(lines: &[Line], account: u64) -> Option<usize>
+    ensures { result ≡ position_from (λ l. l.account == account) 0 lines.now }
+{
+    lines.iter().position(|line| line.account == account)
+}
+
 // Whether an account stands on one of some lines.
+#[tactic(auto, using(crate::proofs::Scanning::found_any))]
 fn stands_on(lines: &[Line], account: u64) -> bool
     ensures { result ≡ list_any (λ l. l.account == account) lines.now }
 {
-    lines.iter().any(|line| line.account == account)
+    // by its place, since a search for a place takes fewer steps a line than `any`
+    place_on(lines, account).is_some()
 }
 
 // A line's percentage, if its size is large.
