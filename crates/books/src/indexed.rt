@@ -32,6 +32,9 @@ fn free_slot(hints: &[Option<usize>], account: u64, looks: u64) -> Option<usize>
 fn note(hints: &mut [Option<usize>], account: u64, place: usize)
     ensures { (i p : ℕ) → slice_get hints.old i ≡ Some (Some p) → slice_get hints.new i ≡ Some (Some p) }
 {
+    if hints.is_empty() {
+        return;
+    }
     if let Some(slot) = (0..MOST_LOOKS).find_map(|looks| free_slot(hints, account, looks)) {
         hints[slot] = Some(place);
     }

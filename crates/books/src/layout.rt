@@ -48,13 +48,21 @@ pub(crate) fn record_at(image: &[u8], place: usize) -> Option<Record>
     decode(slot)
 }
 
+// The first places; all where there are fewer.
+#[tactic(auto, using(std::proofs::lemmas::List::take_min))]
+fn first_slots(image: &[u8], end: usize) -> &[[u8; RECORD_BYTES]]
+    ensures { result.now ≡ take end (slots_in image.now) }
+{
+    let slots = slots(image);
+    &slots[..end.min(slots.len())]
+}
+
 /// The place of an account among the first places; none where they lack it.
 pub(crate) fn place_of(image: &[u8], end: usize, account: u64) -> Option<usize>
     ensures { result ≡ position (λ s. account_in s == account) (take end (slots_in image.now)) }
 {
-    slots(image)
+    first_slots(image, end)
         .iter()
-        .take(end)
         .position(|slot| account_in(slot) == account)
 }
 
