@@ -14,3 +14,16 @@ pub fn refusal_line<R: Numbered>(word: &str, why: &R, heap: Global) -> Result<St
     let place = why.place();
     format!(in heap; "{word}: refused {number} place {place}: {why}")
 }
+
+/// The same line of a refusal that is told by its number, its place and its reason.
+pub fn refused_line(
+    word: &str,
+    number: u8,
+    place: usize,
+    reason: &str,
+    heap: Global,
+) -> Result<String, AllocError>
+    ensures { IfOk result (λ s. string_bytes s ≡ refused_text word.now number place reason.now) }
+{
+    format!(in heap; "{word}: refused {number} place {place}: {reason}")
+}

@@ -5,7 +5,7 @@ use accounts::record::{Kind, Record, Size, State};
 use base::refusal::Numbered;
 use desk::answers::{OPENED, RATES_SET, answer_line, request_line};
 use desk::book_lines::{account_line, ledger_line};
-use desk::refusal::refusal_line;
+use desk::refusal::{refusal_line, refused_line};
 use desk::totals::{CentTotals, UnitTotals};
 use journal::mistake::Mistake;
 use journal::statement::Expected;
@@ -169,6 +169,8 @@ fn declined_calls(rt: HostRuntime) -> Result<(), Fail> {
     )?;
     let other = refusal_line("book", &TooFewBytes, heap)?;
     assert_eq!(rt; other.as_str(), "book: refused 6 place 0: too few bytes");
+    let alike = refused_line("book", 6, 0, "too few bytes", heap)?;
+    assert_eq!(rt; alike.as_str(), "book: refused 6 place 0: too few bytes");
     let lapse = answer_line("lapse", Err(Refusal::InPeriod), heap)?;
     assert_eq!(rt;
         lapse.as_str(),
