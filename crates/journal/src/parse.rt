@@ -57,7 +57,7 @@ fn read_open(line: &mut Reader) -> Result<Project, ParseError>
 }
 
 /// The six fields of a line; words behind them are left.
-pub(crate) fn read_fields(line: &mut Reader) -> Result<Line, ParseError>
+fn read_fields(line: &mut Reader) -> Result<Line, ParseError>
     ensures value { result ≡ six_of (words line.old.left.now) }
     ensures left { OnOk result (words line.new.left.now ≡ rest_from 6 (words line.old.left.now)) }
     ensures after { OnOk result (line.new.left.now ≡ after_words 6 line.old.left.now) }
@@ -79,7 +79,7 @@ pub(crate) fn read_fields(line: &mut Reader) -> Result<Line, ParseError>
 }
 
 /// The six fields of a line, and no word behind them.
-fn read_line(line: &mut Reader) -> Result<Line, ParseError>
+pub(crate) fn read_line(line: &mut Reader) -> Result<Line, ParseError>
     ensures { result ≡ line_of (words line.old.left.now) }
 {
     let read = read_fields(line)?;
@@ -172,7 +172,7 @@ fn read_statement(
 }
 
 /// Whether a line's first word makes it a remark.
-pub(crate) fn is_remark(word: &[u8]) -> bool
+fn is_remark(word: &[u8]) -> bool
     ensures { result ≡ is_remark word.now }
 {
     word.first() == Some(&b'#')
