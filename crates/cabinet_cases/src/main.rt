@@ -5,8 +5,13 @@
 
 use cabinet_tasks::arguments::{finish, perform, run};
 use cabinet_tasks::ending::Ending;
+use cabinet_tasks::failure::Failure;
 use std::fs;
 use std::process::ExitCode;
+
+/// A name that no journal has, longer than a line.
+const LONG_NAME: &str =
+    "journals/a_journal_whose_name_is_long_and_that_nobody_has_written_yet.journal";
 
 /// An empty input.
 const NOTHING: &[u8] = &[];
@@ -21,7 +26,7 @@ fn print_words(rt: &HostRuntime, words: &[&str]) -> anyhow::Result<()> {
 }
 
 /// How a task ended, or what was wrong.
-fn print_end(rt: &HostRuntime, end: anyhow::Result<Ending>) -> anyhow::Result<()> {
+fn print_end(rt: &HostRuntime, end: Result<Ending, Failure>) -> anyhow::Result<()> {
     match end {
         Ok(ending) => println!(rt; "{ending}")?,
         Err(why) => println!(rt; "{why}")?,
@@ -60,17 +65,27 @@ fn ask_as_program(rt: &HostRuntime) -> anyhow::Result<()> {
 fn main(rt: HostRuntime) -> anyhow::Result<ExitCode> {
     ask(&rt, &["--pack", "lines.txt", "lines.req"])?;
     ask(&rt, &["--pack", "spaced.txt", "spaced.req"])?;
+    ask(&rt, &["--pack", "returned.txt", "returned.req"])?;
     for text in [
         "mistake.txt",
         "long.txt",
         "wide.txt",
         "none.txt",
         "bytes.txt",
+        "blank.txt",
+        "indented.txt",
+        "returns.txt",
     ] {
         ask(&rt, &["--pack", text, "mistake.req"])?;
     }
     ask(&rt, &["--pack", "lines.txt", "nowhere/lines.req"])?;
-    for file in ["lines.req", "spaced.req", "mistake.req", "torn.req"] {
+    for file in [
+        "lines.req",
+        "spaced.req",
+        "returned.req",
+        "mistake.req",
+        "torn.req",
+    ] {
         ask(&rt, &["--show", file])?;
     }
     for journal in [
@@ -92,6 +107,8 @@ fn main(rt: HostRuntime) -> anyhow::Result<ExitCode> {
         "journals/twice.journal",
         "journals/lost.journal",
         "journals/nowhere.journal",
+        "journals/unknown.journal",
+        LONG_NAME,
     ] {
         ask(&rt, &[journal])?;
     }
@@ -103,6 +120,8 @@ fn main(rt: HostRuntime) -> anyhow::Result<ExitCode> {
     ask(&rt, &["--show"])?;
     ask(&rt, &["--print"])?;
     ask(&rt, &["--report", "quarter.journal", "short.journal"])?;
+    ask(&rt, &["--pack", "lines.txt", "lines.req", "spaced.req"])?;
+    ask(&rt, &["--show", "lines.req", "spaced.req", "torn.req"])?;
     ask(&rt, &["--help"])?;
     ask(&rt, &["--report", "published_month.journal"])?;
     ask(&rt, &["published_month.journal"])?;

@@ -1,12 +1,13 @@
 //! What the words behind the program's name ask for, and how the program ends.
 use crate::ending::Ending;
+use crate::failure::Failure;
 use crate::files::{pack, show};
 use crate::help::HELP;
 use crate::log::Log;
 use crate::monthly::Report;
 use crate::posting::{post_file, post_input};
-use anyhow::bail;
 use std::env;
+use std::fmt::Display;
 use std::io::{Eprint, Read};
 use std::process::ExitCode;
 
@@ -21,14 +22,20 @@ pub fn run(rt: &HostRuntime) -> anyhow::Result<ExitCode> {
     finish(rt, perform(rt, rt.stdin(), words.as_slice()))
 }
 
+/// A failure of words that ask for nothing.
+fn misused<T: Display>(rt: &HostRuntime, what: &T) -> Failure {
+    Failure::told(&format_args!("cabinet: {what}; {EXPLAINED}"), rt.alloc())
+}
+
 /// Performs what the words behind the program's name ask for. A journal that they do not name stands on `input`. The
 /// error says what could not be understood, read or done.
 pub fn perform<I: Read + Drop>(
     rt: &HostRuntime,
     input: I,
     words: &[&str],
-) -> anyhow::Result<Ending> {
+) -> Result<Ending, Failure> {
     match *words {
+        [_, _, _, _, ..] => Err(misused(rt, &"too many words")),
         [] => post_input(rt, &Log, input),
         ["--help"] => {
             rt.print(HELP)?;
@@ -39,20 +46,22 @@ pub fn perform<I: Read + Drop>(
         ["--pack", text, file] => pack(rt, text, file),
         ["--show", file] => show(rt, file),
         [name] if !name.starts_with("--") => post_file(rt, &Log, name),
-        ["--pack", ..] => bail!("cabinet: --pack takes a text and a file; {EXPLAINED}"),
-        ["--show", ..] => bail!("cabinet: --show takes a file; {EXPLAINED}"),
-        [name] => bail!("cabinet: there is no option {name}; {EXPLAINED}"),
-        _ => bail!("cabinet: too many words; {EXPLAINED}"),
+        ["--pack", ..] => Err(misused(rt, &"--pack takes a text and a file")),
+        ["--show", ..] => Err(misused(rt, &"--show takes a file")),
+        [name] => Err(misused(rt, &format_args!("there is no option {name}"))),
+        _ => Err(misused(rt, &"too many words")),
     }
 }
 
-/// The status of the program; what could not be understood, read or done is told on standard error.
-pub fn finish<R: Eprint>(rt: &R, end: anyhow::Result<Ending>) -> anyhow::Result<ExitCode> {
+/// The status of the program. What could not be understood, read or written is told whole on standard error; where
+/// memory, the clock, or the program's own input or output failed, the error is handed on.
+pub fn finish<R: Eprint>(rt: &R, end: Result<Ending, Failure>) -> anyhow::Result<ExitCode> {
     match end {
         Ok(ending) => Ok(ending.into()),
-        Err(why) => {
-            eprintln!(rt; "{why}")?;
+        Err(Failure::Told(line)) => {
+            eprintln!(rt; "{line}")?;
             Ok(ExitCode::FAILURE)
         }
+        Err(Failure::Failed(why)) => Err(why),
     }
 }

@@ -1,7 +1,7 @@
 //! Packs and shows request files.
 use crate::ending::Ending;
+use crate::failure::Failure;
 use accounts::record::Line;
-use anyhow::{anyhow, bail};
 use desk::refusal::refusal_line;
 use journal::packed::{Packed, read_packed};
 use journal::statement::Statement;
@@ -10,6 +10,7 @@ use requests::file::RequestFile;
 use requests::filed::FiledLine;
 use requests::packing::WriteRefusal;
 use requests::writer::write;
+use std::alloc::Global;
 use std::fs;
 use std::str::from_utf8;
 
@@ -17,49 +18,56 @@ use std::str::from_utf8;
 const LINE_WORD: &str = "line ";
 
 /// The bytes of a file.
-pub(crate) fn read_file(rt: &HostRuntime, name: &str) -> anyhow::Result<Vec<u8>> {
-    match fs::read(rt, name) {
-        Ok(bytes) => Ok(bytes),
-        Err(why) => bail!("cabinet: {name} cannot be read: {why}"),
-    }
+pub(crate) fn read_file(rt: &HostRuntime, name: &str) -> Result<Vec<u8>, Failure> {
+    fs::read(rt, name).map_err(|why| {
+        let words = format_args!("cabinet: {name} cannot be read: {why}");
+        Failure::told(&words, rt.alloc())
+    })
 }
 
 /// Why lines cannot be packed, with the line of the text where it is one line's fault.
-fn unpacked(why: WriteRefusal, numbers: &[usize]) -> anyhow::Error {
+fn unpacked(why: WriteRefusal, numbers: &[usize], heap: Global) -> Failure {
     let line = match why {
         WriteRefusal::Number { place } | WriteRefusal::Remark { place } => numbers.get(place),
         _ => None,
     };
     match line {
-        Some(number) => anyhow!("text line {number}: {why}"),
-        None => anyhow!("cabinet: {why}"),
+        Some(number) => Failure::told(&format_args!("text line {number}: {why}"), heap),
+        None => Failure::told(&format_args!("cabinet: {why}"), heap),
     }
 }
 
 /// Writes a request file from a text of lines and remarks.
-pub fn pack(rt: &HostRuntime, text: &str, file: &str) -> anyhow::Result<Ending> {
+pub fn pack(rt: &HostRuntime, text: &str, file: &str) -> Result<Ending, Failure> {
     let heap = rt.alloc();
     let bytes = read_file(rt, text)?;
     let Ok(lines) = from_utf8(bytes.as_slice()) else {
-        bail!("cabinet: {text} is no text");
+        return Err(Failure::told(&format_args!("cabinet: {text} is no text"), heap));
     };
     let mut filed = Vec::new(heap);
     // the line of the text for each of them
     let mut numbers = Vec::new(heap);
     for (place, words) in lines.lines().enumerate() {
         let number = place.saturating_add(1);
-        let packed = read_packed(words.as_bytes()).map_err(|why| anyhow!(
-            "text line {number}: {why}"
-        ))?;
+        let packed = read_packed(words.as_bytes()).map_err(|why| {
+            Failure::told(&format_args!("text line {number}: {why}"), heap)
+        })?;
         if let Some(Packed { line, remark }) = packed {
             filed.push(FiledLine { line, remark })?;
             numbers.push(number)?;
         }
     }
-    let packed = write(filed.as_slice(), heap).map_err(|why| unpacked(why, numbers.as_slice()))?;
-    if let Err(why) = fs::write(rt, file, packed.as_slice()) {
-        bail!("cabinet: {file} cannot be written: {why}");
-    }
+    let packed = write(filed.as_slice(), heap).map_err(|why| unpacked(
+        why,
+        numbers.as_slice(),
+        heap,
+    ))?;
+    fs::write(rt, file, packed.as_slice()).map_err(|why| {
+        Failure::told(
+            &format_args!("cabinet: {file} cannot be written: {why}"),
+            heap,
+        )
+    })?;
     let lines = filed.len();
     let size = packed.len();
     println!(rt; "{file}: {lines} lines, {size} bytes")?;
@@ -85,7 +93,7 @@ fn show_line(rt: &HostRuntime, file: &RequestFile, place: usize, line: Line) -> 
 }
 
 /// Prints the lines of a request file with their remarks, or why it is refused.
-pub fn show(rt: &HostRuntime, name: &str) -> anyhow::Result<Ending> {
+pub fn show(rt: &HostRuntime, name: &str) -> Result<Ending, Failure> {
     let bytes = read_file(rt, name)?;
     match RequestFile::open(bytes.as_slice()) {
         Ok(file) => {

@@ -1,9 +1,11 @@
 //! Reads a journal with the request files that it names.
+use crate::failure::Failure;
 use crate::progress::Progress;
 use journal::line::JournalLine;
 use journal::mistake::Mistake;
 use journal::statement::Statement;
-use journal::text::{Journal, read_journal};
+use journal::text::{Journal, JournalFault, read_journal};
+use std::alloc::Global;
 use std::fs;
 
 /// The folder of a journal, with the bar behind it; empty where its name has none.
@@ -26,17 +28,26 @@ fn read_requests(
     rt: &HostRuntime,
     folder: &str,
     statements: &mut [JournalLine],
-) -> anyhow::Result<()> {
+) -> Result<(), Failure> {
     for stated in statements.iter_mut() {
         if let Statement::Request(name) = &stated.statement {
             let bytes = request_bytes(rt, folder, name.as_str())?;
-            stated.file = bytes.ok_or(Mistake {
+            let mistake = Mistake {
                 line: stated.line,
                 wanted: "a request file that can be read",
-            })?;
+            };
+            stated.file = bytes.ok_or_else(|| Failure::told(&mistake, rt.alloc()))?;
         }
     }
     Ok(())
+}
+
+/// Why a text is no journal: a line of it, or memory that failed.
+fn no_journal(why: JournalFault, heap: Global) -> Failure {
+    match why {
+        JournalFault::Line(mistake) => Failure::told(&mistake, heap),
+        JournalFault::NoMemory => Failure::Failed(why.into()),
+    }
 }
 
 /// The journal of a text with its request files.
@@ -44,9 +55,10 @@ pub(crate) fn journal_of(
     progress: &mut Progress<HostRuntime>,
     folder: &str,
     text: &[u8],
-) -> anyhow::Result<Journal> {
+) -> Result<Journal, Failure> {
     let rt = progress.rt;
-    let mut journal = read_journal(text, rt.alloc())?;
+    let heap = rt.alloc();
+    let mut journal = read_journal(text, heap).map_err(|why| no_journal(why, heap))?;
     progress.tell(journal.lines, "lines are read")?;
     read_requests(rt, folder, journal.statements.as_mut_slice())?;
     Ok(journal)

@@ -3,6 +3,7 @@
 
 pub mod arguments;
 pub mod ending;
+pub mod failure;
 pub mod files;
 pub mod help;
 mod journals;

@@ -44,7 +44,7 @@ impl Sheet {
 /// The records of a book.
 fn records<B: AccountBook>(book: &B, heap: Global) -> Result<Vec<Record>, AllocError> {
     (0..book.count())
-        .filter_map(|place| book.get(place))
+        .map_while(|place| book.get(place))
         .collect(heap)
 }
 

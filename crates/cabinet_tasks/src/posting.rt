@@ -1,5 +1,6 @@
 //! Posts a journal by the method and in the book that its head names.
 use crate::ending::Ending;
+use crate::failure::Failure;
 use crate::files::read_file;
 use crate::journals::{folder_of, journal_of};
 use crate::printout::Printout;
@@ -36,7 +37,7 @@ pub fn post_input<P: Printout, I: Read + Drop>(
     rt: &HostRuntime,
     printout: &P,
     mut input: I,
-) -> anyhow::Result<Ending> {
+) -> Result<Ending, Failure> {
     let mut text = Vec::new(rt.alloc());
     input.read_to_end(&mut text)?;
     post_text(rt, printout, "", text.as_slice())
@@ -47,7 +48,7 @@ pub fn post_file<P: Printout>(
     rt: &HostRuntime,
     printout: &P,
     name: &str,
-) -> anyhow::Result<Ending> {
+) -> Result<Ending, Failure> {
     let text = read_file(rt, name)?;
     post_text(rt, printout, folder_of(name), text.as_slice())
 }
@@ -58,11 +59,14 @@ fn post_text<P: Printout>(
     printout: &P,
     folder: &str,
     text: &[u8],
-) -> anyhow::Result<Ending> {
+) -> Result<Ending, Failure> {
     let mut progress = Progress::start(rt)?;
     let journal = journal_of(&mut progress, folder, text)?;
     let statements = journal.statements.as_slice();
-    let head = read_head(statements, journal.lines.saturating_add(1))?;
+    let head = read_head(statements, journal.lines.saturating_add(1)).map_err(|why| Failure::told(
+        &why,
+        rt.alloc(),
+    ))?;
     match head.method {
         MethodName::ValueStack => {
             post_in_book::<ValueStack, P>(&mut progress, printout, head, statements)?

@@ -2,7 +2,10 @@
 use anyhow::anyhow;
 use cabinet_tasks::arguments::finish;
 use cabinet_tasks::ending::Ending;
+use cabinet_tasks::failure::Failure;
 use cabinet_tasks::progress::Progress;
+use journal::mistake::Mistake;
+use journal::statement::Expected;
 use std::alloc::Global;
 use std::cell::{Cell, RefCell};
 use std::fmt::Display;
@@ -59,7 +62,7 @@ impl Eprint for FakeRuntime {
 fn ends(
     rt: &impl Abort,
     runtime: FakeRuntime,
-    end: anyhow::Result<Ending>,
+    end: Result<Ending, Failure>,
     status: ExitCode,
     errors: &[u8],
 ) -> anyhow::Result<()> {
@@ -68,14 +71,15 @@ fn ends(
     Ok(())
 }
 
-// Of a task that was done nothing is told, nor of a refusal, which was printed; a mistake is told once.
+// Of a task that was done nothing is told, nor of a refusal, which was printed; a mistake is told once and whole. Where
+// memory or the program's own output failed, nothing is told here: the error is handed on.
 #[test]
 fn endings(rt: HostRuntime) -> anyhow::Result<()> {
     let heap = rt.alloc();
     let (done, refused) = (Ok(Ending::Done), Ok(Ending::Refused));
     ends(&rt, FakeRuntime::new(heap), done, ExitCode::SUCCESS, b"")?;
     ends(&rt, FakeRuntime::new(heap), refused, ExitCode::FAILURE, b"")?;
-    let mistake = anyhow!("journal line 3: expected an account, in digits");
+    let mistake = Failure::told(&"journal line 3: expected an account, in digits", heap);
     let line = b"journal line 3: expected an account, in digits\n";
     ends(
         &rt,
@@ -83,7 +87,28 @@ fn endings(rt: HostRuntime) -> anyhow::Result<()> {
         Err(mistake),
         ExitCode::FAILURE,
         line,
-    )
+    )?;
+    let statement = Failure::told(
+        &Mistake {
+            line: 7,
+            wanted: Expected::Statement,
+        },
+        heap,
+    );
+    let line =
+        b"journal line 7: expected a statement: method, book, open, rates, line, request, enrol, reading, bill, final, disburse, lapse or close\n";
+    ends(
+        &rt,
+        FakeRuntime::new(heap),
+        Err(statement),
+        ExitCode::FAILURE,
+        line,
+    )?;
+    let runtime = FakeRuntime::new(heap);
+    let failed = Err(Failure::Failed(anyhow!("the output is full")));
+    assert!(rt; finish(&runtime, failed).is_err());
+    assert_eq!(rt; runtime.into_errors().as_slice(), b"".as_slice());
+    Ok(())
 }
 
 // From 100 seconds on: nothing within the first second, and one line in each later one in which there is something to
