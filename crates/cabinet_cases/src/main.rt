@@ -9,7 +9,7 @@ use cabinet_tasks::failure::Failure;
 use std::fs;
 use std::process::ExitCode;
 
-/// A name that no journal has, longer than a line.
+/// A name that no journal has, so long that what is told of it has more than 120 bytes.
 const LONG_NAME: &str =
     "journals/a_journal_whose_name_is_long_and_that_nobody_has_written_yet.journal";
 

@@ -62,6 +62,10 @@ pub fn finish<R: Eprint>(rt: &R, end: Result<Ending, Failure>) -> anyhow::Result
             eprintln!(rt; "{line}")?;
             Ok(ExitCode::FAILURE)
         }
+        Err(Failure::Cut(why)) => {
+            eprintln!(rt; "{why}")?;
+            Ok(ExitCode::FAILURE)
+        }
         Err(Failure::Failed(why)) => Err(why),
     }
 }

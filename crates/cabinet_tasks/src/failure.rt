@@ -1,13 +1,18 @@
 //! Why a task is not done.
+use anyhow::anyhow;
 use std::alloc::{AllocError, AllocFailed, Global};
+use std::error::Error;
 use std::fmt::Display;
 use std::{fmt, io};
 
-/// Why a task is not done.
+/// Why a task is not done. [`finish`](crate::arguments::finish) tells a line whole; handed on by `?` as an
+/// `anyhow::Error`, it is cut to 120 bytes.
 #[derive(Debug, Drop)]
 pub enum Failure {
     /// What could not be understood, read or written: a line that people are told whole, however long it is.
     Told(String),
+    /// Such a line where there is no memory for it: its first 120 bytes.
+    Cut(anyhow::Error),
     /// Memory, the clock, or the program's own input or output failed.
     Failed(anyhow::Error),
 }
@@ -17,7 +22,7 @@ impl Failure {
     pub fn told<T: Display>(words: &T, heap: Global) -> Failure {
         match words.to_string(heap) {
             Ok(line) => Failure::Told(line),
-            Err(why) => Failure::from(why),
+            Err(_) => Failure::Cut(anyhow!("{words}")),
         }
     }
 }
@@ -26,10 +31,12 @@ impl Display for Failure {
     fn fmt<W: fmt::Write>(&self, f: &mut fmt::Formatter<W>) -> fmt::Result {
         match self {
             Failure::Told(line) => write!(f, "{line}"),
-            Failure::Failed(why) => write!(f, "{why}"),
+            Failure::Cut(why) | Failure::Failed(why) => write!(f, "{why}"),
         }
     }
 }
+
+impl Error for Failure {}
 
 impl From<anyhow::Error> for Failure {
     fn from(why: anyhow::Error) -> Failure {

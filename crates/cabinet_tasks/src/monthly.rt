@@ -41,7 +41,7 @@ impl Sheet {
     }
 }
 
-/// The records of a book.
+/// The records of a book, up to a place that has none; a proper book has one at each.
 fn records<B: AccountBook>(book: &B, heap: Global) -> Result<Vec<Record>, AllocError> {
     (0..book.count())
         .map_while(|place| book.get(place))

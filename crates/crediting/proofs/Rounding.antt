@@ -48,6 +48,7 @@ used_rated rs k u b c r w all ok is pays rounds =
     let p : Credited (by_rates rs k) u b c w = rw (rounds, is) (by_rate (rate_of rs k) u b c (class_rate rs k all class).0 (pays ∙ applied_inside (by_rates rs) k u b ok)) in
     used_is (by_rates rs) k u b c w (by_rates_lawful rs k all class) ok p
 
+-- so a credit of so many units uses what it should
 pub uses_rated : (rs : List ℕ) (k u b c r w : ℕ) → RatesInRange rs → in_ranges k u b ≡ true → r ≡ rate_of rs k → c ≡ applied_credit (by_rates rs) k u b → w ≡ c * one_cent / r + min 1 (c * one_cent % r) → Uses (by_rates rs) k u b c w
 uses_rated rs k u b c r w all ok is pays rounds =
     meant (by_rates rs) k u b c w (λ class. by_rates_lawful rs k all class) pays (used_rated rs k u b c r w all ok is pays rounds)
