@@ -11,7 +11,7 @@ use std::{fmt, io};
 pub enum Failure {
     /// What could not be understood, read or written: a line that people are told whole, however long it is.
     Told(String),
-    /// Such a line where there is no memory for it: its first 120 bytes.
+    /// Such a line where there is no memory for it, cut to 120 bytes.
     Cut(anyhow::Error),
     /// Memory, the clock, or the program's own input or output failed.
     Failed(anyhow::Error),

@@ -1,7 +1,9 @@
-//! Tests that cross crates: the lines that are read and printed, whole journals, reports, and how the program's tasks
-//! end.
+//! Tests that cross crates: the lines that are read and printed, whole journals, reports, how the program's tasks end,
+//! and what the ledger answers on a book that is not proper.
 #![tactic(auto)]
 
+#[cfg(test)]
+mod improper;
 #[cfg(test)]
 mod journals;
 #[cfg(test)]

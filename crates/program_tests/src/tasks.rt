@@ -104,6 +104,15 @@ fn endings(rt: HostRuntime) -> anyhow::Result<()> {
         ExitCode::FAILURE,
         line,
     )?;
+    let cut = Failure::Cut(anyhow!("journal line 3: expected an accou..."));
+    let line = b"journal line 3: expected an accou...\n";
+    ends(
+        &rt,
+        FakeRuntime::new(heap),
+        Err(cut),
+        ExitCode::FAILURE,
+        line,
+    )?;
     let runtime = FakeRuntime::new(heap);
     let failed = Err(Failure::Failed(anyhow!("the output is full")));
     assert!(rt; finish(&runtime, failed).is_err());
