@@ -1,11 +1,16 @@
 //! Asks the cabinet for what the year's journal does not: packs and shows request files, prints the reports of a
 //! quarter, of a farm's project and of a month whose credits are published, hands it journals and nothing as its input,
-//! and gives it texts, files, journals and options with a mistake.
+//! and gives it texts, files, journals and options with a mistake. Asks for some of it, too, by the functions whose errors
+//! are cut to 120 bytes.
 #![tactic(auto)]
 
-use cabinet_tasks::arguments::{finish, perform, run};
+use cabinet_tasks::arguments::{finish, finish_task, perform, perform_task, run};
 use cabinet_tasks::ending::Ending;
-use cabinet_tasks::failure::Failure;
+use cabinet_tasks::files::{pack, show};
+use cabinet_tasks::log::Log;
+use cabinet_tasks::monthly::Report;
+use cabinet_tasks::posting::{post_file, post_input};
+use std::fmt::Display;
 use std::fs;
 use std::process::ExitCode;
 
@@ -26,7 +31,7 @@ fn print_words(rt: &HostRuntime, words: &[&str]) -> anyhow::Result<()> {
 }
 
 /// How a task ended, or what was wrong.
-fn print_end(rt: &HostRuntime, end: Result<Ending, Failure>) -> anyhow::Result<()> {
+fn print_end<E: Display + Drop>(rt: &HostRuntime, end: Result<Ending, E>) -> anyhow::Result<()> {
     match end {
         Ok(ending) => println!(rt; "{ending}")?,
         Err(why) => println!(rt; "{why}")?,
@@ -39,7 +44,7 @@ fn print_end(rt: &HostRuntime, end: Result<Ending, Failure>) -> anyhow::Result<(
 fn ask(rt: &HostRuntime, words: &[&str]) -> anyhow::Result<()> {
     print_words(rt, words)?;
     println!(rt; "")?;
-    print_end(rt, perform(rt, NOTHING, words))
+    print_end(rt, perform_task(rt, NOTHING, words))
 }
 
 /// Asks with the journal in a file as its input.
@@ -47,7 +52,7 @@ fn pipe(rt: &HostRuntime, journal: &str, words: &[&str]) -> anyhow::Result<()> {
     let text = fs::read(rt, journal)?;
     print_words(rt, words)?;
     println!(rt; " < {journal}")?;
-    print_end(rt, perform(rt, text.as_slice(), words))
+    print_end(rt, perform_task(rt, text.as_slice(), words))
 }
 
 /// Asks by this program's own words, which are `--report`, and on its own standard input, as the cabinet itself is
@@ -56,6 +61,37 @@ fn ask_as_program(rt: &HostRuntime) -> anyhow::Result<()> {
     println!(rt; "$ cabinet --report < stdin")?;
     if run(rt)? == ExitCode::SUCCESS {
         println!(rt; "done")?;
+    }
+    println!(rt; "")?;
+    Ok(())
+}
+
+/// Packs and shows a file, posts journals and performs words by the functions that answer an error as `anyhow` keeps it.
+fn ask_cut(rt: &HostRuntime) -> anyhow::Result<()> {
+    println!(rt; "pack lines.txt cut.req")?;
+    print_end(rt, pack(rt, "lines.txt", "cut.req"))?;
+    println!(rt; "pack mistake.txt cut.req")?;
+    print_end(rt, pack(rt, "mistake.txt", "cut.req"))?;
+    println!(rt; "show cut.req")?;
+    print_end(rt, show(rt, "cut.req"))?;
+    println!(rt; "show torn.req")?;
+    print_end(rt, show(rt, "torn.req"))?;
+    println!(rt; "show mistake.req")?;
+    print_end(rt, show(rt, "mistake.req"))?;
+    println!(rt; "post_file short.journal")?;
+    print_end(rt, post_file(rt, &Report, "short.journal"))?;
+    println!(rt; "post_file journals/unknown.journal")?;
+    print_end(rt, post_file(rt, &Log, "journals/unknown.journal"))?;
+    println!(rt; "post_input < short.journal")?;
+    let journal = fs::read(rt, "short.journal")?;
+    print_end(rt, post_input(rt, &Report, journal.as_slice()))?;
+    println!(rt; "post_input")?;
+    print_end(rt, post_input(rt, &Log, NOTHING))?;
+    println!(rt; "perform {LONG_NAME}")?;
+    print_end(rt, perform(rt, NOTHING, &[LONG_NAME]))?;
+    println!(rt; "finish perform --show torn.req")?;
+    if finish(rt, perform(rt, NOTHING, &["--show", "torn.req"]))? == ExitCode::FAILURE {
+        println!(rt; "status 1")?;
     }
     println!(rt; "")?;
     Ok(())
@@ -126,5 +162,6 @@ fn main(rt: HostRuntime) -> anyhow::Result<ExitCode> {
     ask(&rt, &["--report", "published_month.journal"])?;
     ask(&rt, &["published_month.journal"])?;
     ask_as_program(&rt)?;
-    finish(&rt, perform(&rt, NOTHING, &["--show", "torn.req"]))
+    ask_cut(&rt)?;
+    finish_task(&rt, perform_task(&rt, NOTHING, &["--show", "torn.req"]))
 }

@@ -1,4 +1,8 @@
 //! How a task ends.
+ghost use Rattle.std.specs.Prelude.{◌≡◌};
+ghost use Rattle.std.specs.Process.{exit_status};
+ghost use Rattle.cabinet_tasks.specs.Endings.{ending_status};
+
 use std::fmt;
 use std::process::ExitCode;
 
@@ -21,6 +25,8 @@ impl fmt::Display for Ending {
 }
 
 impl From<Ending> for ExitCode {
+    ghost from_gives = { λ ending code. exit_status code ≡ ending_status ending };
+
     fn from(ending: Ending) -> ExitCode {
         match ending {
             Ending::Done => ExitCode::SUCCESS,

@@ -5,13 +5,13 @@ use std::error::Error;
 use std::fmt::Display;
 use std::{fmt, io};
 
-/// Why a task is not done. [`finish`](crate::arguments::finish) tells a line whole; handed on by `?` as an
+/// Why a task is not done. [`finish_task`](crate::arguments::finish_task) tells a line whole; handed on by `?` as an
 /// `anyhow::Error`, it is cut to 120 bytes.
 #[derive(Debug, Drop)]
 pub enum Failure {
     /// What could not be understood, read or written: a line that people are told whole, however long it is.
     Told(String),
-    /// Such a line where there is no memory for it, cut to 120 bytes.
+    /// Such a line, cut to 120 bytes: there is no memory for it, or it was an `anyhow::Error` from the first.
     Cut(anyhow::Error),
     /// Memory, the clock, or the program's own input or output failed.
     Failed(anyhow::Error),

@@ -1,4 +1,7 @@
 //! Packs and shows request files.
+ghost use Rattle.std.specs.Prelude.{IfErr};
+ghost use Rattle.anyhow.specs.Error.{HasNoCause};
+
 use crate::ending::Ending;
 use crate::failure::Failure;
 use accounts::record::Line;
@@ -38,7 +41,7 @@ fn unpacked(why: WriteRefusal, numbers: &[usize], heap: Global) -> Failure {
 }
 
 /// Writes a request file from a text of lines and remarks.
-pub fn pack(rt: &HostRuntime, text: &str, file: &str) -> Result<Ending, Failure> {
+pub fn pack_task(rt: &HostRuntime, text: &str, file: &str) -> Result<Ending, Failure> {
     let heap = rt.alloc();
     let bytes = read_file(rt, text)?;
     let Ok(lines) = from_utf8(bytes.as_slice()) else {
@@ -74,6 +77,13 @@ pub fn pack(rt: &HostRuntime, text: &str, file: &str) -> Result<Ending, Failure>
     Ok(Ending::Done)
 }
 
+/// As [`pack_task`]; the error says what that failure says, cut to 120 bytes, and no cause stands behind it.
+pub fn pack(rt: &HostRuntime, text: &str, file: &str) -> anyhow::Result<Ending>
+    ensures alone { IfErr result HasNoCause }
+{
+    Ok(pack_task(rt, text, file)?)
+}
+
 /// Prints a line in the form in which it is packed: as a journal's statement, without its first word.
 fn show_line(rt: &HostRuntime, file: &RequestFile, place: usize, line: Line) -> anyhow::Result<()> {
     let statement = write_statement(&Statement::Line(line), rt.alloc())?;
@@ -93,7 +103,7 @@ fn show_line(rt: &HostRuntime, file: &RequestFile, place: usize, line: Line) -> 
 }
 
 /// Prints the lines of a request file with their remarks, or why it is refused.
-pub fn show(rt: &HostRuntime, name: &str) -> Result<Ending, Failure> {
+pub fn show_task(rt: &HostRuntime, name: &str) -> Result<Ending, Failure> {
     let bytes = read_file(rt, name)?;
     match RequestFile::open(bytes.as_slice()) {
         Ok(file) => {
@@ -112,4 +122,11 @@ pub fn show(rt: &HostRuntime, name: &str) -> Result<Ending, Failure> {
             Ok(Ending::Refused)
         }
     }
+}
+
+/// As [`show_task`]; the error says what that failure says, cut to 120 bytes, and no cause stands behind it.
+pub fn show(rt: &HostRuntime, name: &str) -> anyhow::Result<Ending>
+    ensures alone { IfErr result HasNoCause }
+{
+    Ok(show_task(rt, name)?)
 }

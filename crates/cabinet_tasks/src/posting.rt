@@ -1,4 +1,7 @@
 //! Posts a journal by the method and in the book that its head names.
+ghost use Rattle.std.specs.Prelude.{IfErr};
+ghost use Rattle.anyhow.specs.Error.{HasNoCause};
+
 use crate::ending::Ending;
 use crate::failure::Failure;
 use crate::files::read_file;
@@ -33,7 +36,7 @@ const MOST_IMAGE: u64 = 4 + RECORD_BYTES as u64 * MOST_RECORDS;
 const SLOTS: usize = 4 * limits::MOST_RECORDS;
 
 /// Posts the journal that stands on an input.
-pub fn post_input<P: Printout, I: Read + Drop>(
+pub fn post_input_task<P: Printout, I: Read + Drop>(
     rt: &HostRuntime,
     printout: &P,
     mut input: I,
@@ -43,14 +46,32 @@ pub fn post_input<P: Printout, I: Read + Drop>(
     post_text(rt, printout, "", text.as_slice())
 }
 
+/// As [`post_input_task`]; the error says what that failure says, cut to 120 bytes, and no cause stands behind it.
+pub fn post_input<P: Printout, I: Read + Drop>(
+    rt: &HostRuntime,
+    printout: &P,
+    mut input: I,
+) -> anyhow::Result<Ending>
+    ensures alone { IfErr result HasNoCause }
+{
+    Ok(post_input_task(rt, printout, &mut input)?)
+}
+
 /// Posts the journal in a file. Request files that it names are looked for where the program runs, and then beside it.
-pub fn post_file<P: Printout>(
+pub fn post_file_task<P: Printout>(
     rt: &HostRuntime,
     printout: &P,
     name: &str,
 ) -> Result<Ending, Failure> {
     let text = read_file(rt, name)?;
     post_text(rt, printout, folder_of(name), text.as_slice())
+}
+
+/// As [`post_file_task`]; the error says what that failure says, cut to 120 bytes, and no cause stands behind it.
+pub fn post_file<P: Printout>(rt: &HostRuntime, printout: &P, name: &str) -> anyhow::Result<Ending>
+    ensures alone { IfErr result HasNoCause }
+{
+    Ok(post_file_task(rt, printout, name)?)
 }
 
 /// Posts a journal's text, once all of it is understood.

@@ -1,6 +1,6 @@
 //! Tests of what the cabinet tells on standard error, and of the status that it ends with.
 use anyhow::anyhow;
-use cabinet_tasks::arguments::finish;
+use cabinet_tasks::arguments::{finish, finish_task};
 use cabinet_tasks::ending::Ending;
 use cabinet_tasks::failure::Failure;
 use cabinet_tasks::progress::Progress;
@@ -59,14 +59,14 @@ impl Eprint for FakeRuntime {
 }
 
 // A task that ends so has this status, and this is told of it.
-fn ends(
+fn task_ends(
     rt: &impl Abort,
     runtime: FakeRuntime,
     end: Result<Ending, Failure>,
     status: ExitCode,
     errors: &[u8],
 ) -> anyhow::Result<()> {
-    assert_eq!(rt; finish(&runtime, end)?, status);
+    assert_eq!(rt; finish_task(&runtime, end)?, status);
     assert_eq!(rt; runtime.into_errors().as_slice(), errors);
     Ok(())
 }
@@ -74,14 +74,14 @@ fn ends(
 // Of a task that was done nothing is told, nor of a refusal, which was printed; a mistake is told once and whole. Where
 // memory or the program's own output failed, nothing is told here: the error is handed on.
 #[test]
-fn endings(rt: HostRuntime) -> anyhow::Result<()> {
+fn endings_of_tasks(rt: HostRuntime) -> anyhow::Result<()> {
     let heap = rt.alloc();
     let (done, refused) = (Ok(Ending::Done), Ok(Ending::Refused));
-    ends(&rt, FakeRuntime::new(heap), done, ExitCode::SUCCESS, b"")?;
-    ends(&rt, FakeRuntime::new(heap), refused, ExitCode::FAILURE, b"")?;
+    task_ends(&rt, FakeRuntime::new(heap), done, ExitCode::SUCCESS, b"")?;
+    task_ends(&rt, FakeRuntime::new(heap), refused, ExitCode::FAILURE, b"")?;
     let mistake = Failure::told(&"journal line 3: expected an account, in digits", heap);
     let line = b"journal line 3: expected an account, in digits\n";
-    ends(
+    task_ends(
         &rt,
         FakeRuntime::new(heap),
         Err(mistake),
@@ -97,7 +97,7 @@ fn endings(rt: HostRuntime) -> anyhow::Result<()> {
     );
     let line =
         b"journal line 7: expected a statement: method, book, open, rates, line, request, enrol, reading, bill, final, disburse, lapse or close\n";
-    ends(
+    task_ends(
         &rt,
         FakeRuntime::new(heap),
         Err(statement),
@@ -106,7 +106,7 @@ fn endings(rt: HostRuntime) -> anyhow::Result<()> {
     )?;
     let cut = Failure::Cut(anyhow!("journal line 3: expected an accou..."));
     let line = b"journal line 3: expected an accou...\n";
-    ends(
+    task_ends(
         &rt,
         FakeRuntime::new(heap),
         Err(cut),
@@ -115,9 +115,40 @@ fn endings(rt: HostRuntime) -> anyhow::Result<()> {
     )?;
     let runtime = FakeRuntime::new(heap);
     let failed = Err(Failure::Failed(anyhow!("the output is full")));
-    assert!(rt; finish(&runtime, failed).is_err());
+    assert!(rt; finish_task(&runtime, failed).is_err());
     assert_eq!(rt; runtime.into_errors().as_slice(), b"".as_slice());
     Ok(())
+}
+
+// A task whose error is cut to 120 bytes has this status where it ends so, and this is told of it.
+fn ends(
+    rt: &impl Abort,
+    runtime: FakeRuntime,
+    end: anyhow::Result<Ending>,
+    status: ExitCode,
+    errors: &[u8],
+) -> anyhow::Result<()> {
+    assert_eq!(rt; finish(&runtime, end)?, status);
+    assert_eq!(rt; runtime.into_errors().as_slice(), errors);
+    Ok(())
+}
+
+// Of a task that was done nothing is told, nor of a refusal, which was printed; a mistake is told once.
+#[test]
+fn endings(rt: HostRuntime) -> anyhow::Result<()> {
+    let heap = rt.alloc();
+    let (done, refused) = (Ok(Ending::Done), Ok(Ending::Refused));
+    ends(&rt, FakeRuntime::new(heap), done, ExitCode::SUCCESS, b"")?;
+    ends(&rt, FakeRuntime::new(heap), refused, ExitCode::FAILURE, b"")?;
+    let mistake = anyhow!("journal line 3: expected an account, in digits");
+    let line = b"journal line 3: expected an account, in digits\n";
+    ends(
+        &rt,
+        FakeRuntime::new(heap),
+        Err(mistake),
+        ExitCode::FAILURE,
+        line,
+    )
 }
 
 // From 100 seconds on: nothing within the first second, and one line in each later one in which there is something to
