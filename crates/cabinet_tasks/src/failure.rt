@@ -11,7 +11,8 @@ use std::{fmt, io};
 pub enum Failure {
     /// What could not be understood, read or written: a line that people are told whole, however long it is.
     Told(String),
-    /// Such a line, cut to 120 bytes: there is no memory for it, or it was an `anyhow::Error` from the first.
+    /// Such a line cut to 120 bytes, where there is no memory for it; or whatever [`finish`](crate::arguments::finish) was
+    /// given as an `anyhow::Error`.
     Cut(anyhow::Error),
     /// Memory, the clock, or the program's own input or output failed.
     Failed(anyhow::Error),
