@@ -1,8 +1,10 @@
 //! What the words behind the program's name ask for, and how the program ends.
-ghost use Rattle.std.specs.Prelude.{◌≡◌, IfErr, IfOk, IsOk};
+ghost use Rattle.std.specs.Prelude.{◌≡◌, Err, IfErr, IfOk, IsOk};
 ghost use Rattle.std.specs.Process.{exit_status};
 ghost use Rattle.anyhow.specs.Error.{HasNoCause};
+ghost use Rattle.anyhow.specs.declared.error.Error.{Error};
 ghost use Rattle.cabinet_tasks.specs.Endings.{status_of};
+ghost use Rattle.cabinet_tasks.specs.declared.failure.Failure.TheVariants.{Failed};
 
 use crate::ending::Ending;
 use crate::failure::Failure;
@@ -70,6 +72,7 @@ pub fn perform<I: Read + Drop>(rt: &HostRuntime, input: I, words: &[&str]) -> an
 pub fn finish_task<R: Eprint>(rt: &R, end: Result<Ending, Failure>) -> anyhow::Result<ExitCode>
     ensures status { IfOk result (λ code. exit_status code ≡ status_of end) }
     ensures ended { IsOk end → IsOk result }
+    ensures handed { (why : Error) → end ≡ Err (Failed why) → result ≡ Err why }
 {
     match end {
         Ok(ending) => Ok(ending.into()),
